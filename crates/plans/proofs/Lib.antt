@@ -1,0 +1,9 @@
+pub mod Whole
+pub mod Members
+pub mod Steps
+pub mod Listing
+pub mod InOrder
+pub mod Fronts
+pub mod Ends
+pub mod Listed
+pub mod Standing

@@ -1,0 +1,4 @@
+pub mod Sorts
+pub mod Sums
+pub mod Tables
+pub mod Turns
