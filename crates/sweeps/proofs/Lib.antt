@@ -2,3 +2,5 @@ pub mod Sorts
 pub mod Sums
 pub mod Tables
 pub mod Turns
+pub mod Picks
+pub mod Levels

@@ -4,3 +4,4 @@ pub mod Headings
 pub mod Amounts
 pub mod Ways
 pub mod Directions
+pub mod Traces

@@ -3,3 +3,4 @@ pub mod heading;
 pub mod kinds;
 pub mod sweep;
 pub mod tally;
+pub mod trace;
