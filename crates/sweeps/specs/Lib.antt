@@ -5,3 +5,5 @@ pub mod Amounts
 pub mod Ways
 pub mod Directions
 pub mod Traces
+pub mod Sums
+pub mod Minutes
