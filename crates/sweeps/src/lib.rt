@@ -1,7 +1,4 @@
-//! Tallies over the plans of a chart: the sweep that serves every kind of them, and the trace of a plan.
-pub mod heading;
-pub mod kinds;
+//! The sweep that serves every kind of tally, the trace of a plan, and the least plan of a chart.
 pub mod least;
 pub mod sweep;
-pub mod tally;
 pub mod trace;

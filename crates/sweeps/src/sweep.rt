@@ -5,16 +5,16 @@ ghost use lib.IntN.{natAbs};
 ghost use lib.ListN.{length, getD};
 ghost use Rattle.charts.specs.Drafts.{placesOf, arcsOf};
 ghost use Rattle.plans.specs.Arcs.{Sealed};
-ghost use Rattle.sweeps.specs.Laws.{wide};
-ghost use Rattle.sweeps.specs.Amounts.{marked, priceAt, Sweepable, Forward as ForwardTable, Backward as BackwardTable};
-ghost use Rattle.sweeps.specs.Ways.{relaxed, Filled};
-use super::heading::Backward;
-use super::heading::BackwardHeading;
-use super::heading::Heading;
-use super::heading::Onward;
-use super::heading::OnwardHeading;
-use super::tally::Tally;
+ghost use Rattle.tallies.specs.Laws.{wide};
+ghost use Rattle.ways.specs.Amounts.{marked, priceAt, Sweepable, Forward as ForwardTable, Backward as BackwardTable};
+ghost use Rattle.ways.specs.Ways.{relaxed, Filled};
 use charts::chart::Chart;
+use tallies::heading::Backward;
+use tallies::heading::BackwardHeading;
+use tallies::heading::Heading;
+use tallies::heading::Onward;
+use tallies::heading::OnwardHeading;
+use tallies::tally::Tally;
 use terms::arc::Arc;
 
 /// Writes one value into every entry.
@@ -93,12 +93,7 @@ fn sweep<T: Tally, H: Heading>(
 }
 
 /// Writes, for each node, the joining over all standing partial plans from the root to it.
-pub fn forward<T: Tally>(
-    chart: &Chart,
-    standing: &[bool],
-    prices: &[i64],
-    out: &mut [T::Amount],
-)
+pub fn forward<T: Tally>(chart: &Chart, standing: &[bool], prices: &[i64], out: &mut [T::Amount])
     requires fit { ⌜ Sweepable (arcsOf (now chart)) (now standing) (now prices) ⌝ }
     requires long { ⌜ length (now out) ≡ 1056 ⌝ }
     ensures { λ _. ⌜ ForwardTable T·Tally (placesOf (now (chart .entry))) (arcsOf (now (chart .entry))) (marked (now (standing .entry))) (priceAt (now (prices .entry))) (now (out .exit)) ⌝ }
@@ -107,12 +102,7 @@ pub fn forward<T: Tally>(
 }
 
 /// Writes, for each node, the joining over all standing partial plans from it to the end.
-pub fn backward<T: Tally>(
-    chart: &Chart,
-    standing: &[bool],
-    prices: &[i64],
-    out: &mut [T::Amount],
-)
+pub fn backward<T: Tally>(chart: &Chart, standing: &[bool], prices: &[i64], out: &mut [T::Amount])
     requires fit { ⌜ Sweepable (arcsOf (now chart)) (now standing) (now prices) ⌝ }
     requires long { ⌜ length (now out) ≡ 1056 ⌝ }
     ensures { λ _. ⌜ BackwardTable T·Tally (placesOf (now (chart .entry))) (arcsOf (now (chart .entry))) (marked (now (standing .entry))) (priceAt (now (prices .entry))) (now (out .exit)) ⌝ }

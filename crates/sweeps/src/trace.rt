@@ -5,10 +5,10 @@ ghost use lib.ListN.{length};
 ghost use Rattle.plans.specs.Arcs.{Sealed};
 ghost use Rattle.plans.specs.Plans.{Node};
 ghost use Rattle.charts.specs.Drafts.{placesOf, arcsOf};
-ghost use Rattle.sweeps.specs.Amounts.{marked, priceAt, Sweepable, Backward};
-ghost use Rattle.sweeps.specs.Traces.{Picked, Outcome};
-use super::tally::Choosing;
+ghost use Rattle.ways.specs.Amounts.{marked, priceAt, Sweepable, Backward};
+ghost use Rattle.ways.specs.Traces.{Picked, Outcome};
 use charts::chart::Chart;
+use tallies::tally::Choosing;
 use terms::arc::Arc;
 
 /// The smallest standing arc from node `node` of level `place` that attains the node's amount.

@@ -12,9 +12,9 @@ use Rattle.terms.specs.declared.arc.Arc.{Arc}
 use Rattle.plans.specs.Arcs.{arcAt, Sealed}
 use Rattle.plans.specs.Firsts.{written}
 use Rattle.charts.specs.Drafts.{placesOf, arcsOf}
-use Rattle.sweeps.specs.Laws.{steep}
-use Rattle.sweeps.specs.Amounts.{marked, priceAt}
-use Rattle.sweeps.proofs.Minutes.{cheapest-minutes, amount-minutes, minutes-small}
+use Rattle.tallies.specs.Laws.{steep}
+use Rattle.ways.specs.Amounts.{marked, priceAt}
+use Rattle.ways.proofs.Minutes.{cheapest-minutes, amount-minutes, minutes-small}
 use Rattle.sweeps.proofs.least.cheapest_plan.Needs as need
 
 pub by-minutes-requires : need.by-minutes-requires

@@ -4,9 +4,9 @@ use native.Mathlib.Omega.{arith}
 use lib.IntN.{pos, natAbs}
 use lib.ListN.{getD}
 use Rattle.charts.specs.Drafts.{placesOf, arcsOf}
-use Rattle.sweeps.specs.Laws.{steep}
-use Rattle.sweeps.specs.Amounts.{Sweepable, marked, priceAt}
-use Rattle.sweeps.proofs.Writes.{reach-wrote, reach-answer}
+use Rattle.tallies.specs.Laws.{steep}
+use Rattle.ways.specs.Amounts.{Sweepable, marked, priceAt}
+use Rattle.ways.proofs.Writes.{reach-wrote, reach-answer}
 use Rattle.sweeps.proofs.least.first_plan.Needs as need
 
 -- a price of 0 is small

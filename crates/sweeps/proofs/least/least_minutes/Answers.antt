@@ -15,8 +15,8 @@ use Rattle.std.specs.declared.option.Option.{Option}
 use Rattle.std.specs.declared.option.Option.the-variants.{Some}
 use Rattle.std.specs.declared.result.Result.the-variants.{Ok}
 use Rattle.charts.specs.Drafts.{placesOf, arcsOf}
-use Rattle.sweeps.specs.Minutes.{cheapestPlan}
-use Rattle.sweeps.proofs.Minutes.{none-cost, some-cost}
+use Rattle.ways.specs.Minutes.{cheapestPlan}
+use Rattle.ways.proofs.Minutes.{none-cost, some-cost}
 use Rattle.sweeps.proofs.least.least_minutes.Needs as need
 
 -- a number that is not negative fits where its bits do

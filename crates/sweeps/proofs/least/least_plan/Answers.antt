@@ -1,10 +1,10 @@
 use mathlib.Core.Path.{_≡_, refl, _∙_}
 use lib.ListN.{getD}
 use Rattle.charts.specs.Drafts.{placesOf, arcsOf}
-use Rattle.sweeps.specs.Amounts.{marked, priceAt}
-use Rattle.sweeps.proofs.Firsts.{least-standing}
-use Rattle.sweeps.proofs.Levels.{root-node}
-use Rattle.sweeps.proofs.Writes.{least-wrote}
+use Rattle.ways.specs.Amounts.{marked, priceAt}
+use Rattle.ways.proofs.Firsts.{least-standing}
+use Rattle.ways.proofs.Levels.{root-node}
+use Rattle.ways.proofs.Writes.{least-wrote}
 use Rattle.sweeps.proofs.least.least_plan.Needs as need
 
 pub returns : need.returns

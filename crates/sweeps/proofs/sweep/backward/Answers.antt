@@ -1,4 +1,4 @@
-use Rattle.sweeps.proofs.Turns.{backward-table}
+use Rattle.ways.proofs.Turns.{backward-table}
 use Rattle.sweeps.proofs.sweep.backward.Needs as need
 
 pub returns : need.returns

@@ -5,10 +5,10 @@ use lib.IntN.{pos}
 use lib.ListN.{length, getD}
 use Rattle.std.proofs.shelf.Tests.{eq-eqb, ne-eqb, and-from, and-left, and-right}
 use Rattle.plans.specs.Arcs.{arcAt}
-use Rattle.sweeps.specs.Laws.{wide}
-use Rattle.sweeps.specs.Amounts.{marked, priceAt}
-use Rattle.sweeps.specs.Ways.{relaxed, spot}
-use Rattle.sweeps.proofs.Tables.{Arriving, price-passed, arriving-start, arriving-all, arriving-no, arriving-yes, before-narrow, spot-within}
+use Rattle.tallies.specs.Laws.{wide}
+use Rattle.ways.specs.Amounts.{marked, priceAt}
+use Rattle.ways.specs.Ways.{relaxed, spot}
+use Rattle.ways.proofs.Tables.{Arriving, price-passed, arriving-start, arriving-all, arriving-no, arriving-yes, before-narrow, spot-within}
 use Rattle.sweeps.proofs.sweep.cross.Needs as need
 use Rattle.sweeps.proofs.sweep.cross.Needs.{then-standing-i·then-arc-place, else-standing-i, else-standing-i·by·then-standing-i·else-arc-place, else-standing-i·by·else-standing-i}
 

@@ -1,5 +1,5 @@
-use Rattle.sweeps.specs.Amounts.{marked, priceAt}
-use Rattle.sweeps.proofs.Tables.{Arriving}
+use Rattle.ways.specs.Amounts.{marked, priceAt}
+use Rattle.ways.proofs.Tables.{Arriving}
 use Rattle.sweeps.proofs.sweep.cross.Given as given
 
 -- the row of the next step is filled by the arcs behind

@@ -4,7 +4,7 @@ use native.Mathlib.Omega.{arith}
 use borrow.Author.Count.{below-more}
 use lib.ListN.{length}
 use lib.Seq.{getD-set-same, getD-set-other}
-use Rattle.sweeps.proofs.Tables.{all-alike}
+use Rattle.ways.proofs.Tables.{all-alike}
 use Rattle.sweeps.proofs.sweep.fill.Needs as need
 
 pub loop-i-again : need.loop-i-again

@@ -1,4 +1,4 @@
-use Rattle.sweeps.proofs.Turns.{forward-table}
+use Rattle.ways.proofs.Turns.{forward-table}
 use Rattle.sweeps.proofs.sweep.forward.Needs as need
 
 pub returns : need.returns

@@ -6,9 +6,9 @@ use lib.ListN.{length, getD, set, length-set}
 use Rattle.terms.specs.declared.arc.Arc.{Arc}
 use Rattle.plans.specs.Arcs.{Sealed}
 use Rattle.charts.specs.Drafts.{placesOf, arcsOf}
-use Rattle.sweeps.specs.Amounts.{marked, priceAt, Sweepable}
-use Rattle.sweeps.specs.Ways.{spot, Filled}
-use Rattle.sweeps.proofs.Tables.{filled-start, spot-within}
+use Rattle.ways.specs.Amounts.{marked, priceAt, Sweepable}
+use Rattle.ways.specs.Ways.{spot, Filled}
+use Rattle.ways.proofs.Tables.{filled-start, spot-within}
 use Rattle.sweeps.proofs.sweep.sweep.Needs as need
 
 pub loop-step-holds : need.loop-step-holds

@@ -1,5 +1,5 @@
-use Rattle.sweeps.specs.Amounts.{marked, priceAt}
-use Rattle.sweeps.specs.Ways.{Filled}
+use Rattle.ways.specs.Amounts.{marked, priceAt}
+use Rattle.ways.specs.Ways.{Filled}
 use Rattle.sweeps.proofs.sweep.sweep.Given as given
 
 -- the rows of the steps behind are filled

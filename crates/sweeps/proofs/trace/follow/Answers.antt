@@ -7,9 +7,9 @@ use Rattle.std.proofs.shelf.Lists.{drop-set-lt}
 use Rattle.std.proofs.shelf.Tests.{both-ways, and-parts}
 use Rattle.plans.specs.Arcs.{arcAt}
 use Rattle.plans.specs.Plans.{next, Node}
-use Rattle.sweeps.specs.Amounts.{marked, priceAt, backwardAmount}
-use Rattle.sweeps.specs.Traces.{Traced, Completes, Attaining}
-use Rattle.sweeps.proofs.Levels.{root-node, end-node, read-table, attained, amount-left, completes-more, completes-all, traced-attains}
+use Rattle.ways.specs.Amounts.{marked, priceAt, backwardAmount}
+use Rattle.ways.specs.Traces.{Traced, Completes, Attaining}
+use Rattle.ways.proofs.Levels.{root-node, end-node, read-table, attained, amount-left, completes-more, completes-all, traced-attains}
 use Rattle.sweeps.proofs.trace.follow.Needs as need
 
 -- the first entry of the table is the amount at the root

@@ -2,8 +2,8 @@ use mathlib.Core.Path.{_≡_}
 use Prim.Native.Nat.{ℕ, suc, _+_}
 use lib.ListN.{take, drop}
 use Rattle.plans.specs.Plans.{Node}
-use Rattle.sweeps.specs.Amounts.{marked, priceAt, backwardAmount}
-use Rattle.sweeps.specs.Traces.{Completes}
+use Rattle.ways.specs.Amounts.{marked, priceAt, backwardAmount}
+use Rattle.ways.specs.Traces.{Completes}
 use Rattle.sweeps.proofs.trace.follow.Given as given
 
 -- what follows the rule from the node on completes what is written, and an amount is there; the places past the plan's stay

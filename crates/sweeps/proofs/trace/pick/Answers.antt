@@ -8,10 +8,10 @@ use Rattle.std.proofs.shelf.Tests.{both-ways, and-from, and-parts}
 use Rattle.plans.specs.Arcs.{arcAt}
 use Rattle.plans.specs.Plans.{next, Node}
 use Rattle.plans.proofs.Steps.{next-from, next-place, next-start}
-use Rattle.sweeps.specs.Laws.{wide}
-use Rattle.sweeps.specs.Amounts.{marked, priceAt, backwardAmount, entry}
-use Rattle.sweeps.proofs.Tables.{price-passed}
-use Rattle.sweeps.proofs.Levels.{end-node, after, amount-narrow, read-table, attains-yes, attains-no}
+use Rattle.tallies.specs.Laws.{wide}
+use Rattle.ways.specs.Amounts.{marked, priceAt, backwardAmount, entry}
+use Rattle.ways.proofs.Tables.{price-passed}
+use Rattle.ways.proofs.Levels.{end-node, after, amount-narrow, read-table, attains-yes, attains-no}
 use Rattle.sweeps.proofs.trace.pick.Needs as need
 use Rattle.sweeps.proofs.trace.pick.Needs.{then-standing-i·then-arc-place·then-arc-node·else-first, else-standing-i, else-standing-i·by·then-standing-i·then-arc-place·else-arc-node, else-standing-i·by·then-standing-i·else-arc-place, else-standing-i·by·else-standing-i}
 

@@ -1,6 +1,6 @@
 use Prim.Native.Nat.{ℕ, _<_}
-use Rattle.sweeps.specs.Amounts.{marked, priceAt}
-use Rattle.sweeps.specs.Traces.{Attains}
+use Rattle.ways.specs.Amounts.{marked, priceAt}
+use Rattle.ways.specs.Traces.{Attains}
 use Rattle.sweeps.proofs.trace.pick.Given as given
 
 -- no arc behind attains the amount

@@ -4,8 +4,8 @@ use Prim.Native.Nat.{ℕ, _≤_}
 use lib.ListN.{length}
 use Rattle.terms.specs.declared.arc.Arc.{Arc}
 use Rattle.plans.specs.Arcs.{Sealed}
-use Rattle.sweeps.specs.Amounts.{marked, priceAt, Sweepable, Backward}
-use Rattle.sweeps.specs.Traces.{Outcome}
+use Rattle.ways.specs.Amounts.{marked, priceAt, Sweepable, Backward}
+use Rattle.ways.specs.Traces.{Outcome}
 use Rattle.sweeps.proofs.trace.trace.Needs as need
 
 pub follow-requires : need.follow-requires

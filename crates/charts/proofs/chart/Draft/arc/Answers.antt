@@ -24,15 +24,31 @@ ghost-self c =
     let inside = sym (c .if-outside .ensures tt) in
     let nodes = sym (c .if-off-nodes .ensures tt) in (
       s .some,
-      (s .few,
-      (length-set _ _ _ ∙ s .long,
-      (omega arith,
-      (each-more (OnPlace (s .places)) (t .at) (t .count) a h (s .placed) (on-place (s .places) x inside),
-      (each-more OnNodes (t .at) (t .count) a h (s .noded) (on-nodes (s .places) x nodes),
-      (each-more AtRoot (t .at) (t .count) a h (s .rooted) (at-root (s .places) x nodes),
-      (each-more (AtEnd (s .places)) (t .at) (t .count) a h (s .ended) (at-end (s .places) x nodes),
-      (each-more InRange (t .at) (t .count) a h (s .ranged) (omega arith, omega arith),
-      tt)))))))),
+      (
+        s .few,
+        (
+          length-set _ _ _ ∙ s .long,
+          (
+            omega arith,
+            (
+              each-more (OnPlace (s .places)) (t .at) (t .count) a h (s .placed) (on-place (s .places) x inside),
+              (
+                each-more OnNodes (t .at) (t .count) a h (s .noded) (on-nodes (s .places) x nodes),
+                (
+                  each-more AtRoot (t .at) (t .count) a h (s .rooted) (at-root (s .places) x nodes),
+                  (
+                    each-more (AtEnd (s .places)) (t .at) (t .count) a h (s .ended) (at-end (s .places) x nodes),
+                    (
+                      each-more InRange (t .at) (t .count) a h (s .ranged) (omega arith, omega arith),
+                      tt,
+                    ),
+                  ),
+                ),
+              ),
+            ),
+          ),
+        ),
+      ),
     )
 
 pub returns : need.returns
