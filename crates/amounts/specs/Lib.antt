@@ -1,0 +1,4 @@
+pub mod Multipliers
+pub mod Amounts
+pub mod Sums
+pub mod Laws

@@ -1,0 +1,2 @@
+//! What multipliers make of a plan: definitions and theorems, and hardly any code.
+pub mod theorems;

@@ -1,0 +1,14 @@
+pub mod Rows
+pub mod Marks
+pub mod Multipliers
+pub mod Sizes
+pub mod Sets
+pub mod Sound
+pub mod Recalls
+pub mod Verdicts
+pub mod Uniform
+pub mod Finish
+pub mod Means
+pub mod Room
+pub mod Answered
+pub mod Worked

@@ -1,0 +1,5 @@
+pub mod Cases
+pub mod Calls
+pub mod Theorem
+pub mod Answers
+pub mod Example

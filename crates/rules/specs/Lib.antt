@@ -1,0 +1,4 @@
+pub mod Rules
+pub mod Makes
+pub mod Ranges
+pub mod Lawful
