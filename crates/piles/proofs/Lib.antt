@@ -1,0 +1,3 @@
+pub mod Marking
+pub mod Heights
+pub mod Views
