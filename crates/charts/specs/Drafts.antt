@@ -1,7 +1,7 @@
 -- What a draft and a sealed chart stand for, and the calls on a draft: when each is refused, what it answers and
 -- what it leaves. Assumes nothing.
 use mathlib.Core.List.{List, [], _∷_, _++_}
-use mathlib.Core.Bool.{Bool, true, false, not, _&&_, _||_}
+use mathlib.Core.Bool.{Bool, cond, not, _&&_, _||_}
 use Prim.Native.Nat.{ℕ}
 use lib.Dec.{ltb, leb, eqb}
 use lib.ListN.{length, take}
@@ -78,8 +78,4 @@ onArc d x = decided d (arcRows d x) (record { answer = Ok (length (d .arcs)); le
 
 -- the arc of a number, where there is one
 abbrev pub arcNumbered : List Arc → ℕ → Option Arc
-arcNumbered arcs a = there (ltb a (length arcs))
-  where
-    there : Bool → Option Arc
-    there true = Some (arcAt arcs a)
-    there false = None
+arcNumbered arcs a = cond (ltb a (length arcs)) (Some (arcAt arcs a)) None
