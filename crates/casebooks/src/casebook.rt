@@ -21,14 +21,20 @@ pub struct HeldPlan {
     ghost long: { length at ≡ 32 },
 }
 
+/// A claim: that no lawful plan takes fewer minutes.
+#[derive(Clone, Copy)]
+pub struct Claim {
+    minutes: u32,
+    ghost modest: { minutes ≤ 1_000_000 },
+}
+
 /// What a casebook has beside its bank.
 #[derive(Drop)]
 pub struct Desk {
     chart: Chart,
-    claim: u32,
+    claim: Claim,
     pile: Pile,
     held: Option<HeldPlan>,
-    ghost modest: { claim ≤ 1_000_000 },
 }
 
 /// A casebook: what is judged, and how far the judging has come.
