@@ -34,3 +34,7 @@ restarted arcs m k = record { claimed = k; pile = every arcs ∷ []; held = m .h
 -- a model with another plan held
 abbrev pub holding : Model → List ℕ → Model
 holding m p = record { claimed = m .claimed; pile = m .pile; held = Some p }
+
+-- rules with no chart: what the rows on multipliers look at
+abbrev pub rulesAlone : List Rule → Problem
+rulesAlone rules = record { places = 0; arcs = []; rules = rules }

@@ -13,6 +13,7 @@ mod calls;
 mod desks;
 mod offers;
 mod rows;
+mod working;
 
 /// The plan of the offer accepted last, in the first places of the array.
 #[derive(Clone, Copy)]

@@ -5,6 +5,8 @@ ghost use mathlib.Core.List.{[], _∷_};
 ghost use Prim.Native.Nat.{ℕ, _<_, _≤_};
 ghost use lib.ListN.{length, getD, take};
 ghost use Rattle.std.specs.declared.option.Option.the-variants.{None};
+ghost use Rattle.plans.specs.Arcs.{Sealed};
+ghost use Rattle.plans.specs.Plans.{cost};
 ghost use Rattle.plans.specs.Cases.{every};
 ghost use Rattle.charts.specs.Drafts.{placesOf, arcsOf};
 ghost use Rattle.judging.specs.Cases.{inside, outside, top, under, piled};
@@ -48,6 +50,22 @@ impl Desk {
             pile,
             held: None,
         }
+    }
+
+    /// The number of places of the chart, which is sealed.
+    pub fn sealed(&self) -> u8
+        ensures value { λ r. ⌜ r ≡ placesOf (now (self .entry) .chart) ⌝ }
+        ensures sealed { λ _. ⌜ Sealed (placesOf (now (self .entry) .chart)) (arcsOf (now (self .entry) .chart)) ⌝ }
+    {
+        self.chart.places()
+    }
+
+    /// The cost of a plan of the chart.
+    pub fn cost(&self, plan: &[usize]) -> u32
+        requires { ⌜ length (now plan) ≤ 32 ⌝ }
+        ensures { λ r. ⌜ r ≡ cost (arcsOf (now (self .entry) .chart)) (now (plan .entry)) ⌝ }
+    {
+        cost_of(&self.chart, plan)
     }
 
     /// How many cases are open.
@@ -100,7 +118,8 @@ impl Desk {
         if place < 1 || place > self.chart.places() as u64 {
             return Some(Refusal::SplitPlace);
         }
-        if self.pile.is_one_sided(self.chart.arcs(), place as u8, routes) {
+        if self.pile
+            .is_one_sided(self.chart.arcs(), place as u8, routes) {
             return Some(Refusal::OneSided);
         }
         if height >= 1024 {
@@ -157,7 +176,13 @@ impl Desk {
     {
         let closed = self.pile.height() == 0;
         match self.held_cost() {
-            None => { if closed { Verdict::Proved } else { Verdict::Open } }
+            None => {
+                if closed {
+                    Verdict::Proved
+                } else {
+                    Verdict::Open
+                }
+            }
             Some(cost) => {
                 if cost < self.claim.minutes {
                     Verdict::Refuted

@@ -100,7 +100,8 @@ impl Pile {
     {
         let height = self.table.count;
         self.table.at[height - 1] = Split { place, routes };
-        self.marks.cut(arcs, place, routes, false, height as u16 + 1);
+        self.marks
+            .cut(arcs, place, routes, false, height as u16 + 1);
         self.table.count = height + 1;
     }
 
@@ -117,6 +118,7 @@ impl Pile {
             return;
         }
         let split = self.table.at[height - 2];
-        self.marks.cut(arcs, split.place, split.routes, true, height as u16 - 1);
+        self.marks
+            .cut(arcs, split.place, split.routes, true, height as u16 - 1);
     }
 }

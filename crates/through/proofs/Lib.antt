@@ -1,0 +1,9 @@
+pub mod Bools
+pub mod Collecting
+pub mod Asked
+pub mod Splits
+pub mod Minima
+pub mod Pricing
+pub mod Keeping
+pub mod Fours
+pub mod Taking

@@ -1,0 +1,2 @@
+pub mod Pricings
+pub mod Keeping
