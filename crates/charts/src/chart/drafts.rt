@@ -55,6 +55,13 @@ impl Draft {
         Draft { places: 1, table }
     }
 
+    /// The number of places.
+    pub fn place_count(&self) -> u8
+        ensures { λ r. ⌜ r ≡ draftOf (now (self .entry)) .places ⌝ }
+    {
+        self.places
+    }
+
     /// Sets the number of places, 1 to 32, while no arc is drafted. Answers it.
     pub fn places(&mut self, n: u64) -> Result<u64, Refusal>
         ensures reply { λ r. ⌜ r ≡ onPlaces (draftOf (now (self .entry))) n .answer ⌝ }

@@ -1,0 +1,13 @@
+pub mod Stopping
+pub mod Numerals
+pub mod Halting
+pub mod Pieces
+pub mod Endings
+pub mod Listing
+pub mod Bodies
+pub mod Wording
+pub mod Forming
+pub mod Holding
+pub mod Placing
+pub mod Yielding
+pub mod Unique

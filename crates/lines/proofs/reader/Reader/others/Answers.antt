@@ -1,0 +1,24 @@
+use native.Mathlib.Omega.{arith}
+use lib.Chars.{codes}
+use Rattle.lines.proofs.Numerals.{stepped}
+use Rattle.lines.proofs.Pieces.{number-told, number-halts}
+use Rattle.lines.proofs.Listing.{goes-none, goes-more, at-item, at-neither, at-bracket, shorter, some-number}
+use Rattle.lines.proofs.reader.Reader.others.Needs as need
+
+pub loop-self-less : need.loop-self-less
+loop-self-less c = shorter number-told some-number (codes ")") _ _ (c .loop-self .inv) _ (c .skip .last .self .rest .now) _ (stepped _ _ 32 _ (omega arith) (c .peek .ensures) (c .in-32 .is) (c .skip .ensures)) (c .in-Continue-number .ensures tt .1)
+
+pub loop-self-again : need.loop-self-again
+loop-self-again c = goes-more number-told some-number (codes ")") _ _ (c .loop-self .inv) _ (c .skip .last .self .rest .now) _ (stepped _ _ 32 _ (omega arith) (c .peek .ensures) (c .in-32 .is) (c .skip .ensures)) (c .in-Continue-number .ensures tt)
+
+pub returns-in-Break-number : need.returns-in-Break-number
+returns-in-Break-number c = rw (c .from-residual .ensures) (at-item number-told some-number (codes ")") _ _ (c .loop-self .inv) (c .skip .last .self .rest .now) _ (stepped _ _ 32 _ (omega arith) (c .peek .ensures) (c .in-32 .is) (c .skip .ensures)) (number-halts (c .in-Break-number .ensures tt)))
+
+pub returns-in-rest : need.returns-in-rest
+returns-in-rest c = at-neither number-told some-number (codes ")") _ _ (c .loop-self .inv) (λ e. omega (arith, c .peek .ensures)) (λ e. omega (arith, c .peek .ensures))
+
+pub returns-in-41 : need.returns-in-41
+returns-in-41 c = at-bracket number-told some-number (codes ")") _ _ (c .loop-self .inv) (c .finish .result) (c .skip-in-41 .last .self .rest .now) _ (stepped _ _ 41 _ (omega arith) (c .peek .ensures) (c .in-41 .is) (c .skip-in-41 .ensures)) (c .finish .ensures)
+
+pub loop-self-holds : need.loop-self-holds
+loop-self-holds c = goes-none _ _

@@ -1,0 +1,10 @@
+use lib.ListN.{length}
+use Rattle.lines.specs.Texts.{Triples}
+use Rattle.lines.proofs.Listing.{Goes}
+use Rattle.lines.proofs.reader.Reader.triples.Given as given
+
+abbrev pub Inv-loop-self : given.InvT-loop-self
+Inv-loop-self l = Goes Triples (l .entry .self .rest .now) (l .self .rest .now)
+
+abbrev pub μ-loop-self : given.MeasureT-loop-self
+μ-loop-self l = length (l .self .rest .now)
