@@ -1,10 +1,22 @@
-//! Drafts two charts, seals them, and reports the least minutes and the first plan that takes them.
+//! Drafts two charts, seals them, and reports the least minutes and the first plan that takes them; then prices the small
+//! one under rules.
+use casebooks::casebook::Casebook;
 use charts::chart::Chart;
 use charts::chart::Draft;
+use rules::budget::Budget;
+use rules::budget::BudgetBank;
+use rules::once::Once;
+use rules::once::OnceBank;
+use rules::order::Order;
+use rules::order::OrderBank;
+use rules::order::Precedence;
+use rules::pair::Pair;
+use rules::pair::PairBank;
 use std::io;
 use sweeps::least::least_minutes;
 use terms::arc::NewArc;
 use terms::refusal::Refusal;
+use terms::routes::RouteSet;
 
 /// Two places, and two arcs at each: route 1 or route 2.
 fn small_chart() -> Result<Chart, Refusal> {
@@ -82,11 +94,50 @@ fn report(rt: &impl Print, name: &str, drafted: Result<Chart, Refusal>) -> io::R
     }
 }
 
+/// The routes 1 and 2.
+fn both_routes() -> RouteSet {
+    let mut routes = RouteSet::none();
+    let _ = routes.insert(1);
+    let _ = routes.insert(2);
+    routes
+}
+
+/// Prices a chart of two places where routes 1 and 2 are each tested once, 2 before 1, and no load is limited: 5,000
+/// thousandths of a minute for each test of route 1 beyond the one wanted.
+fn report_price(rt: &impl Print, name: &str, drafted: Result<Chart, Refusal>) -> io::Result<()> {
+    let Ok(chart) = drafted else {
+        return println!(rt, "{name}: refused");
+    };
+    let pairs = [Precedence {
+        earlier: 2,
+        later: 1,
+    }];
+    let once = Once::new(both_routes());
+    let further = Pair::new(Order::new(&pairs), Budget::new(0, &[]));
+    let book = Casebook::open(chart, Pair::new(once, further));
+    let mut plan = [0usize; 2];
+    match book.price(&[5000, 0, 0, 0], &mut plan) {
+        Ok(Some(amount)) => {
+            let [first, second] = plan;
+            println!(
+                rt,
+                "{name} with 5000 for rule 0: priced {amount}, first by arcs {first} {second}"
+            )
+        }
+        Ok(None) => println!(rt, "{name} with 5000 for rule 0: no plan"),
+        Err(refusal) => {
+            let (number, value) = refusal.number();
+            println!(rt, "{name} with 5000 for rule 0: refused {number} {value}")
+        }
+    }
+}
+
 fn main(rt: LibcRuntime) -> io::Result<()> {
     report(&rt, "small chart", small_chart())?;
     report(&rt, "large chart", large_chart())?;
+    report_price(&rt, "small chart", small_chart())?;
     println!(
         rt,
-        "Two charts were drafted and sealed, and each has its first plan of the least minutes above."
+        "Two charts were drafted and sealed, each has its first plan of the least minutes above, and one was priced."
     )
 }
