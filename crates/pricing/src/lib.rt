@@ -1,8 +1,8 @@
 //! The prices of arcs under a bank and multipliers, and what they tell of the standing plans.
 pub mod fair;
-pub mod marks;
+mod marks;
 pub mod price;
 pub mod prices;
 pub mod strike;
-pub mod sums;
+mod sums;
 pub mod trim;

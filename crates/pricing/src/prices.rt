@@ -1,12 +1,12 @@
 //! The prices of arcs, and the limits' share.
 ghost use mathlib.Core.Path.{_≡_};
-ghost use mathlib.Core.Bool.{true, cond};
+ghost use mathlib.Core.Bool.{true, false, cond};
 ghost use Prim.Native.Nat.{ℕ, _<_, _≤_};
 ghost use lib.IntN.{pos};
 ghost use lib.ListN.{length, getD};
 ghost use Rattle.plans.specs.Arcs.{arcAt};
-ghost use Rattle.rules.specs.Rules.{onGrid};
-ghost use Rattle.charts.specs.Drafts.{placesOf, arcsOf};
+ghost use Rattle.rules.specs.Rules.{noRule, onGrid};
+ghost use Rattle.charts.specs.Drafts.{arcsOf};
 ghost use Rattle.amounts.specs.Amounts.{owed, arcPrice};
 ghost use Rattle.amounts.specs.Sums.{worthOf, owedOf};
 ghost use Rattle.ways.specs.Amounts.{marked};
@@ -22,6 +22,14 @@ pub struct Active {
     count: usize,
 }
 
+/// Whether a rule with this multiplier has any part in prices.
+fn counts(multiplier: i64) -> bool
+    ensures yes { λ r. ⌜ (r ≡ true → multiplier ≡ pos 0 → ⊥) ⌝ }
+    ensures nay { λ r. ⌜ (r ≡ false → multiplier ≡ pos 0) ⌝ }
+{
+    multiplier != 0
+}
+
 /// The rules whose multiplier is not 0.
 pub fn active_rules(multipliers: &[i64]) -> Active
     requires { ⌜ length (now multipliers) ≤ 128 ⌝ }
@@ -30,7 +38,7 @@ pub fn active_rules(multipliers: &[i64]) -> Active
     let mut numbers = [0u8; 128];
     let mut count = 0usize;
     for rule in 0..multipliers.len() {
-        if multipliers[rule] != 0 {
+        if counts(multipliers[rule]) {
             numbers[count] = rule as u8;
             count += 1;
         }
@@ -38,17 +46,28 @@ pub fn active_rules(multipliers: &[i64]) -> Active
     Active { numbers, count }
 }
 
-/// A rule's part in an arc's price: its multiplier times its weight at the arc's place and route.
-fn weight_part<B: Bank>(bank: &B, multipliers: &[i64], arc: Arc, rule: usize) -> i64
+/// The weight of a rule of the bank at an arc's place and route.
+fn weight_at<B: Bank>(bank: &B, rule: usize, arc: Arc) -> i64
+    requires few { ⌜ length (B·Bank .rules (now bank)) ≤ 128 ⌝ }
+    requires there { ⌜ rule < length (B·Bank .rules (now bank)) ⌝ }
+    requires fit { ⌜ onGrid (arc .place) (arc .route) ≡ true ⌝ }
+    ensures { λ r. ⌜ r ≡ getD (B·Bank .rules (now (bank .entry))) rule noRule .weight (arc .place) (arc .route) ⌝ }
+{
+    match bank.weight(rule, arc.place as u64, arc.route as u64) {
+        None => 0,
+        Some(weight) => weight,
+    }
+}
+
+/// A rule's part in an arc's price: its multiplier times its weight.
+fn weight_part<B: Bank>(bank: &B, multipliers: &[i64], rule: usize, arc: Arc) -> i64
     requires asked { ⌜ Priceable (B·Bank .rules (now bank)) (now multipliers) ⌝ }
     requires there { ⌜ rule < length (now multipliers) ⌝ }
     requires fit { ⌜ onGrid (arc .place) (arc .route) ≡ true ⌝ }
     ensures { λ r. ⌜ r ≡ worthOf (B·Bank .rules (now (bank .entry))) (now (multipliers .entry)) (arc .place) (arc .route) rule ⌝ }
 {
-    match bank.weight(rule, arc.place as u64, arc.route as u64) {
-        None => 0,
-        Some(weight) => multipliers[rule] * weight,
-    }
+    let weight = weight_at(bank, rule, arc);
+    multipliers[rule] * weight
 }
 
 /// An arc's price: 1000 times its minutes, and the parts of the rules.
@@ -60,9 +79,21 @@ pub fn arc_price<B: Bank>(bank: &B, multipliers: &[i64], active: &Active, arc: A
 {
     let mut price = 1000 * i64::from(arc.minutes);
     for j in 0..active.count {
-        price += weight_part(bank, multipliers, arc, active.numbers[j] as usize);
+        price += weight_part(bank, multipliers, active.numbers[j] as usize, arc);
     }
     price
+}
+
+/// The limit of a rule of the bank.
+fn limit_of<B: Bank>(bank: &B, rule: usize) -> i64
+    requires few { ⌜ length (B·Bank .rules (now bank)) ≤ 128 ⌝ }
+    requires there { ⌜ rule < length (B·Bank .rules (now bank)) ⌝ }
+    ensures { λ r. ⌜ r ≡ getD (B·Bank .rules (now (bank .entry))) rule noRule .limit ⌝ }
+{
+    match bank.head(rule) {
+        None => 0,
+        Some(head) => head.limit,
+    }
 }
 
 /// A rule's part in the limits' share: minus its multiplier times its limit.
@@ -71,13 +102,8 @@ fn limit_part<B: Bank>(bank: &B, multipliers: &[i64], rule: usize) -> i64
     requires there { ⌜ rule < length (now multipliers) ⌝ }
     ensures { λ r. ⌜ r ≡ owedOf (B·Bank .rules (now (bank .entry))) (now (multipliers .entry)) rule ⌝ }
 {
-    if multipliers[rule] == 0 {
-        return 0;
-    }
-    match bank.head(rule) {
-        None => 0,
-        Some(head) => -(multipliers[rule] * head.limit),
-    }
+    let limit = limit_of(bank, rule);
+    -(multipliers[rule] * limit)
 }
 
 /// The limits' share in every plan's priced amount.
@@ -85,9 +111,10 @@ pub fn limits_share<B: Bank>(bank: &B, multipliers: &[i64]) -> i64
     requires { ⌜ Priceable (B·Bank .rules (now bank)) (now multipliers) ⌝ }
     ensures { λ r. ⌜ r ≡ owed (B·Bank .rules (now (bank .entry))) (now (multipliers .entry)) ⌝ }
 {
+    let active = active_rules(multipliers);
     let mut share = 0i64;
-    for rule in 0..multipliers.len() {
-        share += limit_part(bank, multipliers, rule);
+    for j in 0..active.count {
+        share += limit_part(bank, multipliers, active.numbers[j] as usize);
     }
     share
 }

@@ -1,7 +1,7 @@
 -- Tests that say the same, and how many arcs pass a test. Assumes nothing.
 use mathlib.Core.Path.{_≡_, refl, sym, ap, _∙_}
 use mathlib.Core.Bool.{Bool, true, false, cond}
-use Prim.Native.Nat.{ℕ, zero, suc, _<_, _≤_}
+use Prim.Native.Nat.{ℕ, zero, suc, _<_}
 use native.Mathlib.Omega.{arith}
 use Rattle.plans.specs.Cases.{Case, size}
 
@@ -16,12 +16,3 @@ pub size-same : (s r : Case) (n : ℕ) → ((a : ℕ) → a < n → s a ≡ r a)
 size-same s r zero h = refl
 size-same s r (suc n) h =
     ap (λ (b : Bool). cond b (suc (size s n)) (size s n)) (h n (omega arith)) ∙ ap (λ (m : ℕ). cond (r n) (suc m) m) (size-same s r n (λ a l. h a (omega arith)))
-
-step-few : (b : Bool) (m n : ℕ) → m ≤ n → cond b (suc m) m ≤ suc n
-step-few true m n h = omega arith
-step-few false m n h = omega arith
-
--- there are at most n arcs below n
-pub size-few : (s : Case) (n : ℕ) → size s n ≤ n
-size-few s zero = omega arith
-size-few s (suc n) = step-few (s n) (size s n) n (size-few s n)

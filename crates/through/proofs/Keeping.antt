@@ -4,9 +4,9 @@ use mathlib.Core.Path.{_≡_, refl, sym, ap, _∙_, subst}
 use mathlib.Core.Bool.{Bool, true, false, not, _&&_, _||_}
 use mathlib.Core.Logic.{inl}
 use mathlib.Core.List.{List, [], _∷_, _++_, map}
-use Prim.Native.Nat.{ℕ, suc, _+_, _-_, _*_, _<_, _≤_}
+use Prim.Native.Nat.{ℕ, suc, _+_, _-_, _<_, _≤_}
 use native.Mathlib.Omega.{arith}
-use lib.IntN.{ℤ, pos, _+ℤ_, natAbs}
+use lib.IntN.{ℤ, _+ℤ_, natAbs}
 use lib.Signed.{ltZ, _≤ℤ_}
 use lib.ListN.{length, getD}
 use Rattle.std.specs.declared.option.Option.{Option}
@@ -15,8 +15,8 @@ use Rattle.std.proofs.shelf.Signed.{ints}
 use Rattle.std.proofs.shelf.Tests.{and-parts, and-from, false≢true}
 use Rattle.terms.specs.declared.arc.Arc.{Arc}
 use Rattle.plans.specs.Arcs.{arcAt, Sealed}
-use Rattle.plans.specs.Plans.{fronts, backs, In, Node}
-use Rattle.plans.specs.Cases.{Case, stands, those, standing, on, onSome, kept, gone, size}
+use Rattle.plans.specs.Plans.{In, Node}
+use Rattle.plans.specs.Cases.{Case, those, standing, onSome, kept, gone}
 use Rattle.plans.specs.Firsts.{cheapest, amountIn}
 use Rattle.plans.proofs.Members.{those-in, those-out}
 use Rattle.plans.proofs.Steps.{next-from}
@@ -31,16 +31,18 @@ use Rattle.ways.specs.Sums.{priceSum, leasts, reaches}
 use Rattle.ways.proofs.Sums.{way-narrow}
 use Rattle.ways.proofs.Turns.{forward-way}
 use Rattle.ways.proofs.Levels.{end-node, amount-narrow}
-use Rattle.through.specs.Keeping.{throughArc, below, amountBefore, amountBehind, keptBelow, keptReached, startEntry, endEntry, Entered, AllEntered, tableBelow, tableReached, Tabled}
-use Rattle.through.proofs.Bools.{same-bool, size-same}
-use Rattle.through.proofs.Splits.{on-made, befores, behinds, Parts, parted, joined}
+use Rattle.through.specs.Keeping.{throughArc, below, amountBefore, amountBehind, keptBelow, keptReached, startEntry, endEntry, AllEntered, tableBelow, Tabled}
+use Rattle.through.proofs.Bools.{same-bool}
+use Rattle.through.proofs.Splits.{on-made, befores, behinds, parted, joined}
 use Rattle.through.proofs.Minima.{sum-join, forward-joined, backward-joined}
 
 -- LEAST
 
+-- smaller amounts before and behind make a smaller sum
 lower : (f b u v x z mark : ℤ) → f ≤ℤ u → b ≤ℤ v → ltZ ((u +ℤ (x +ℤ v)) +ℤ z) mark ≡ true → ltZ (((f +ℤ x) +ℤ b) +ℤ z) mark ≡ true
 lower f b u v x z mark h k e = grind (arith, ints)
 
+-- two ways to sum up
 regroup : (f x b z : ℤ) → ((f +ℤ x) +ℤ b) +ℤ z ≡ (f +ℤ (x +ℤ b)) +ℤ z
 regroup f x b z = omega (arith, ints)
 
@@ -49,15 +51,18 @@ module _ (n : ℕ) (arcs : List Arc) (sealed : Sealed n arcs) (s : Case) (price 
   abbrev cheap : List (List ℕ)
   cheap = those (λ p. ltZ (f p) mark) (standing n arcs s)
 
+  -- the sum of a partial plan's prices
   abbrev g : List ℕ → ℤ
   g = priceSum price
 
+  -- the standing partial plans before and behind the arc
   abbrev F : List (List ℕ)
   F = befores n arcs sealed s a l
 
   abbrev B : List (List ℕ)
   B = behinds n arcs sealed s a l
 
+  -- the test of two of them
   abbrev test : Option (List ℕ) → Option (List ℕ) → Bool
   test u v = below (leastExtend (throughArc (amountIn g u) (price a) (amountIn g v)) share) mark
 
@@ -65,6 +70,7 @@ module _ (n : ℕ) (arcs : List Arc) (sealed : Sealed n arcs) (s : Case) (price 
   through-sum : (u v : List ℕ) → In (u ++ a ∷ v) (standing n arcs s) → f (u ++ a ∷ v) ≡ (g u +ℤ (price a +ℤ g v)) +ℤ share
   through-sum u v m = same (u ++ a ∷ v) m ∙ ap (λ x. x +ℤ share) (sum-join price u (a ∷ v))
 
+  -- where a standing plan through the arc is priced below the mark, the test says yes
   on-below : onSome cheap a ≡ true → test (cheapest g F) (cheapest g B) ≡ true
   on-below e =
       let r = some-on a cheap e in
@@ -79,6 +85,7 @@ module _ (n : ℕ) (arcs : List Arc) (sealed : Sealed n arcs) (s : Case) (price 
       ∙ ap (λ (o : Option (List ℕ)). test (Some (u .0)) o) (v .1 .0)
       ∙ lower (g (u .0)) (g (v .0)) (g (t .front)) (g (t .back)) (price a) share mark (u .1 .1) (v .1 .1) low
 
+  -- where it says yes, there is such a plan
   below-on : s a ≡ true → (x y : Option (List ℕ)) → cheapest g F ≡ x → cheapest g B ≡ y → test x y ≡ true → onSome cheap a ≡ true
   below-on st None None ex ey e = absurd (false≢true e)
   below-on st None (Some v) ex ey e = absurd (false≢true e)
@@ -87,12 +94,13 @@ module _ (n : ℕ) (arcs : List Arc) (sealed : Sealed n arcs) (s : Case) (price 
       let m = joined n arcs sealed s a l st u v (cheapest-in g u F ex) (cheapest-in g v B ey) in
       on-some (u ++ a ∷ v) a cheap (those-in (λ q. ltZ (f q) mark) (u ++ a ∷ v) (standing n arcs s) (ap (λ x. ltZ x mark) (through-sum u v m ∙ sym (regroup (g u) (price a) (g v) share)) ∙ e) m) (on-made a u v)
 
-  -- the least amount of the standing plans through an arc is that before it, its price and that behind it
+  -- the amounts before and behind are those of the cheapest partial plans
   test-is : keptBelow n arcs s price share mark a ≡ test (cheapest g F) (cheapest g B)
   test-is =
       ap (λ (o : Option ℤ). below (leastExtend (throughArc o (price a) (amountBehind leasts n arcs s price a)) share) mark) (forward-joined price F)
       ∙ ap (λ (o : Option ℤ). below (leastExtend (throughArc (amountIn g (cheapest g F)) (price a) o) share) mark) (backward-joined price B)
 
+  -- so the amounts before and behind an arc tell whether it is kept, and whether it goes
   pub below-kept : (s a && keptBelow n arcs s price share mark a) ≡ kept cheap s a
   below-kept = by (s a) refl
     where
@@ -114,15 +122,18 @@ abbrev has : List (List ℕ) → Bool
 has [] = false
 has (p ∷ ps) = true
 
+-- then there is one on it
 has-in : (ps : List (List ℕ)) → has ps ≡ true → (p : List ℕ) × In p ps
 has-in [] e = absurd (false≢true e)
 has-in (p ∷ ps) e = (p, inl refl)
 
+-- a list with a plan on it has one
 in-has : (ps : List (List ℕ)) (p : List ℕ) → In p ps → has ps ≡ true
 in-has [] p m = absurd m
 in-has (q ∷ ps) p m = refl
 
 module _ (price : ℕ → ℤ) where
+  -- the amount of every partial plan is yes
   reach-onto : (p : List ℕ) → along reaches price p ≡ true
   reach-onto [] = refl
   reach-onto (a ∷ p) = reach-onto p
@@ -131,28 +142,33 @@ module _ (price : ℕ → ℤ) where
   reach-back [] = refl
   reach-back (a ∷ p) = reach-back p
 
+  -- the joining over a list says whether it has one
   reach-joined : (h : List ℕ → Bool) → ((p : List ℕ) → h p ≡ true) → (ps : List (List ℕ)) → joining reaches (map h ps) ≡ has ps
   reach-joined h e [] = refl
   reach-joined h e (p ∷ ps) = ap (λ b. b || joining reaches (map h ps)) (e p)
 
 module _ (n : ℕ) (arcs : List Arc) (sealed : Sealed n arcs) (s : Case) (price : ℕ → ℤ) (a : ℕ) (l : a < length arcs) where
+  -- the standing partial plans before and behind the arc
   abbrev F′ : List (List ℕ)
   F′ = befores n arcs sealed s a l
 
   abbrev B′ : List (List ℕ)
   B′ = behinds n arcs sealed s a l
 
+  -- both ends are reached exactly if there are both
   reach-is : keptReached n arcs s price a ≡ (has F′ && has B′)
   reach-is =
       ap (λ b. b && amountBehind reaches n arcs s price a) (reach-joined price (along reaches price) (reach-onto price) F′)
       ∙ ap (λ b. has F′ && b) (reach-joined price (alongBack reaches price) (reach-back price) B′)
 
+  -- a standing plan through the arc has both parts
   on-reached : onSome (standing n arcs s) a ≡ true → (has F′ && has B′) ≡ true
   on-reached e =
       let r = some-on a (standing n arcs s) e in
       let t = parted n arcs sealed s a l (r .0) (r .1 .0) (r .1 .1) in
       and-from _ _ (in-has F′ (t .front) (t .before)) (in-has B′ (t .back) (t .behind))
 
+  -- two parts make such a plan
   reached-on : s a ≡ true → (has F′ && has B′) ≡ true → onSome (standing n arcs s) a ≡ true
   reached-on st e =
       let t = and-parts (has F′) (has B′) e in
@@ -188,10 +204,12 @@ module _ (n : ℕ) (arcs : List Arc) (sealed : Sealed n arcs) (a : ℕ) (l : a <
   final-node =
       end-node n arcs sealed (arcAt arcs a .place) (arcAt arcs a .start) a (sealed .arc a l .placed .0) (next-from arcs (arcAt arcs a .place) (arcAt arcs a .start) a l refl refl)
 
+  -- the entry of the node at which it ends
   end-spot : endEntry (arcAt arcs a) ≡ entry (suc (arcAt arcs a .place)) (arcAt arcs a .end)
   end-spot = omega arith
 
   module _ {X A : Type 0} (t : Ghosts X A) (s : Case) (price : ℕ → ℤ) (fore back : List A) where
+    -- what filled tables hold at them
     pub read-before : Forward t n arcs s price fore → getD fore (startEntry (arcAt arcs a)) (t .nothing) ≡ amountBefore t arcs s price a
     read-before h = h (arcAt arcs a .place) (arcAt arcs a .start) start-node
 
@@ -233,8 +251,3 @@ module _ (n : ℕ) (arcs : List Arc) (sealed : Sealed n arcs) (s : Case) (prices
   table-below share mark a l =
       ap (λ (o : Option ℤ). below (leastExtend (throughArc o (priceAt prices a) (getD back (endEntry (arcAt arcs a)) None)) share) mark) (read-before n arcs sealed a l leasts s (priceAt prices) fore back ahead)
       ∙ ap (λ (o : Option ℤ). below (leastExtend (throughArc (amountBefore leasts arcs s (priceAt prices) a) (priceAt prices a) o) share) mark) (read-behind n arcs sealed a l leasts s (priceAt prices) fore back home)
-
-pub table-reached : (n : ℕ) (arcs : List Arc) → Sealed n arcs → (s : Case) (price : ℕ → ℤ) (fore back : List Bool) → Forward reaches n arcs s price fore → Backward reaches n arcs s price back → (a : ℕ) → a < length arcs → tableReached arcs fore back a ≡ keptReached n arcs s price a
-table-reached n arcs sealed s price fore back ahead home a l =
-    ap (λ b. b && getD back (endEntry (arcAt arcs a)) false) (read-before n arcs sealed a l reaches s price fore back ahead)
-    ∙ ap (λ b. amountBefore reaches arcs s price a && b) (read-behind n arcs sealed a l reaches s price fore back home)

@@ -5,5 +5,5 @@ pub mod Splits
 pub mod Minima
 pub mod Pricing
 pub mod Keeping
-pub mod Fours
+pub mod Passed
 pub mod Taking

@@ -27,8 +27,8 @@ use Rattle.ways.specs.Amounts.{marked, priceAt, Sweepable}
 use Rattle.ways.specs.Sums.{priceSum, leasts}
 use Rattle.ways.proofs.Firsts.{least-standing}
 use Rattle.ways.proofs.Levels.{root-node, amount-narrow}
-use Rattle.through.specs.Pricings.{problem, Priceable, Gridded, AllGridded, standingPrice}
-use Rattle.through.proofs.Fours.{passed, passed-is}
+use Rattle.through.specs.Pricings.{problem, Priceable, AllGridded, standingPrice}
+use Rattle.through.proofs.Passed.{passed, passed-is}
 use Rattle.through.proofs.Minima.{cheapest-shift, amount-shift}
 
 -- the arcs of a sealed chart are on the grid
@@ -40,7 +40,7 @@ pub share-small : (us : List Rule) (zs : List ℤ) → Priceable us zs → InRan
 share-small us zs asked range = omega (arith, owed-size us zs range (asked .fair) (asked .few))
 
 module _ (n : ℕ) (arcs : List Arc) (us : List Rule) (zs : List ℤ) (s : Case) where
-  -- an arc on the grid that is there and stands
+  -- the price of an arc that is there and stands
   price-there : (a : ℕ) → a < length arcs → s a ≡ true → standingPrice us zs arcs s a ≡ arcPrice us zs (arcAt arcs a)
   price-there a l e = cond-true (ltb a (length arcs) && s a) (arcPrice us zs (arcAt arcs a)) (pos 0) (and-from _ _ (lt-ltb a (length arcs) l) e)
 
@@ -55,6 +55,7 @@ module _ (n : ℕ) (arcs : List Arc) (us : List Rule) (zs : List ℤ) (s : Case)
       by false e = omega arith
 
   module _ (price : ℕ → ℤ) (filled : (a : ℕ) → price a ≡ standingPrice us zs arcs s a) where
+    -- the prices of a standing plan are those of its arcs
     sum-is : (p : List ℕ) (k v : ℕ) → Path arcs k v p → stands s p ≡ true → priceSum price p ≡ pricesOf (problem n arcs us) zs p
     sum-is [] k v h st = refl
     sum-is (a ∷ p) k v h st =
@@ -82,9 +83,11 @@ least-small n arcs sealed s price small =
 
 -- the share as it is passed
 module _ (us : List Rule) (zs : List ℤ) (asked : Priceable us zs) (range : InRange us) (z : ℤ) (is : z ≡ owed us zs) where
+  -- it is not too large
   narrow : natAbs z < wide
   narrow = rw is (share-small us zs asked range)
 
+  -- so it arrives as it is
   pub share-passed : passed z ≡ owed us zs
   share-passed = passed-is z narrow ∙ is
 
@@ -93,6 +96,7 @@ module _ (us : List Rule) (zs : List ℤ) (asked : Priceable us zs) (range : InR
 
 -- what the prices of the standing arcs of a chart, once they are filled in, serve for
 module _ (n : ℕ) (arcs : List Arc) (sealed : Sealed n arcs) (us : List Rule) (zs : List ℤ) (asked : Priceable us zs) (range : InRange us) (on : List Bool) (marks : length arcs ≤ length on) (prices : List ℤ) (long : length prices ≡ 1024) (filled : (a : ℕ) → priceAt prices a ≡ standingPrice us zs arcs (marked on) a) where
+  -- no price is too large
   small : (a : ℕ) → natAbs (priceAt prices a) ≤ steep
   small a =
       subst (λ z. natAbs z ≤ steep) (sym (filled a)) (price-small n arcs us zs (marked on) asked range (sealed-gridded n arcs sealed) a)

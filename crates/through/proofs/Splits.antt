@@ -3,14 +3,14 @@ use mathlib.Core.Path.{_≡_, refl, sym, ap, _∙_, subst}
 use mathlib.Core.List.{List, [], _∷_, _++_}
 use mathlib.Core.Logic.{inl, inr}
 use mathlib.Core.Bool.{Bool, true, false, _&&_}
-use Prim.Native.Nat.{ℕ, suc, _+_, _-_, _<_, _≤_}
+use Prim.Native.Nat.{ℕ, suc, _+_, _-_, _<_}
 use native.Mathlib.Omega.{arith}
 use lib.Dec.{eqb}
 use lib.ListN.{length, length-append}
 use Rattle.std.proofs.shelf.Tests.{and-parts, and-from, or-cases, or-left, or-right, eqb-true, eq-eqb, true≢false}
 use Rattle.terms.specs.declared.arc.Arc.{Arc}
 use Rattle.plans.specs.Arcs.{arcAt, Sealed}
-use Rattle.plans.specs.Plans.{next, Path, arrival, paths, reaching, fronts, backs, In}
+use Rattle.plans.specs.Plans.{next, Path, arrival, fronts, backs, In}
 use Rattle.plans.specs.Cases.{Case, stands, those, standing, on}
 use Rattle.plans.proofs.Members.{those-in, those-out}
 use Rattle.plans.proofs.Steps.{next-from, next-place, next-start, path-join, path-front, path-rest}

@@ -1,7 +1,7 @@
 -- What prices are asked under, and the price that a standing arc has. Assumes nothing.
 use mathlib.Core.Path.{_≡_}
 use mathlib.Core.List.{List}
-use mathlib.Core.Bool.{Bool, true, cond, _&&_}
+use mathlib.Core.Bool.{true, cond, _&&_}
 use Prim.Native.Nat.{ℕ, _<_, _≤_}
 use lib.Dec.{ltb}
 use lib.IntN.{ℤ, pos}
@@ -41,10 +41,11 @@ AllGridded arcs = (a : ℕ) → a < length arcs → Gridded (arcAt arcs a)
 abbrev pub standingPrice : List Rule → List ℤ → List Arc → Case → ℕ → ℤ
 standingPrice us zs arcs s a = cond (ltb a (length arcs) && s a) (arcPrice us zs (arcAt arcs a)) (pos 0)
 
--- the first `count` of the numbers are those of the rules below m whose multiplier is not 0: whatever is summed over the
--- rules, and is 0 where the multiplier is, is the sum over these
+-- the first `count` of the numbers are those of the rules below m whose multiplier is not 0: none of them has the
+-- multiplier 0, and whatever is summed over the rules, and is 0 where the multiplier is, is the sum over these
 pub record Collected (zs : List ℤ) (m : ℕ) (numbers : List ℕ) (count : ℕ) : Type 0 where
   pub long : length numbers ≡ 128
   pub few : count ≤ m
   pub below : (j : ℕ) → j < count → getD numbers j 0 < m
+  pub counting : (j : ℕ) → j < count → getD zs (getD numbers j 0) (pos 0) ≡ pos 0 → ⊥
   pub whole : (f : ℕ → ℤ) → ((r : ℕ) → getD zs r (pos 0) ≡ pos 0 → f r ≡ pos 0) → sumTo (λ j. f (getD numbers j 0)) count ≡ sumTo f m

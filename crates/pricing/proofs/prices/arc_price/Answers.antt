@@ -1,8 +1,8 @@
 use mathlib.Core.Path.{_≡_, sym, ap, _∙_}
-use Prim.Native.Nat.{ℕ, _*_, _<_, _≤_}
+use Prim.Native.Nat.{ℕ, _*_, _≤_}
 use native.Mathlib.Omega.{arith}
 use lib.IntN.{ℤ, pos, natAbs, _+ℤ_, +ℤ-assoc}
-use lib.ListN.{length, getD}
+use lib.ListN.{getD}
 use Rattle.amounts.specs.Sums.{sumTo, worthOf}
 use Rattle.amounts.proofs.Lowest.{fair-length}
 use Rattle.amounts.proofs.Sums.{sum-more}

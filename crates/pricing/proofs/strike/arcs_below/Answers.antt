@@ -1,6 +1,5 @@
-use mathlib.Core.Path.{_≡_, sym, ap, _∙_, subst}
+use mathlib.Core.Path.{sym, ap, _∙_, subst}
 use mathlib.Core.List.{List}
-use Prim.Native.Nat.{ℕ, _<_}
 use native.Mathlib.Omega.{arith}
 use lib.IntN.{ℤ}
 use lib.ListN.{length}
@@ -11,7 +10,7 @@ use Rattle.terms.specs.declared.arc.Arc.{Arc}
 use Rattle.charts.specs.Drafts.{placesOf, arcsOf}
 use Rattle.ways.specs.Amounts.{marked}
 use Rattle.through.specs.Keeping.{Tabled, tableBelow}
-use Rattle.through.proofs.Fours.{passed-is}
+use Rattle.through.proofs.Passed.{passed-is}
 use Rattle.through.proofs.Keeping.{tabled, table-below}
 use Rattle.pricing.proofs.strike.arcs_below.Needs as need
 
