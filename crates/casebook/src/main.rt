@@ -15,6 +15,7 @@ use terms::refusal::Refusal;
 use terms::verdict::Verdict;
 
 const MOST: usize = 4096;
+
 const CHUNK: usize = 8192;
 
 /// Standard input, line by line, in fixed memory: a chunk that was read, and the line so far, of which at most the
@@ -174,15 +175,27 @@ impl Summary {
         match self.verdict {
             Some(verdict) => {
                 let said = word(verdict);
-                eprintln!(rt, "casebook: {lines} lines, {accepted} accepted, {refused} refused, {arcs} arcs, last verdict {said}")
+                eprintln!(
+                    rt,
+                    "casebook: {lines} lines, {accepted} accepted, {refused} refused, {arcs} arcs, last verdict {said}"
+                )
             }
-            None => eprintln!(rt, "casebook: {lines} lines, {accepted} accepted, {refused} refused, {arcs} arcs, no verdict asked"),
+            None => eprintln!(
+                rt,
+                "casebook: {lines} lines, {accepted} accepted, {refused} refused, {arcs} arcs, no verdict asked"
+            ),
         }
     }
 }
 
 /// Reads lines until the draft is sealed; answers whether it was.
-fn draft(lines: &mut Lines, input: &mut impl Read, out: &mut impl Write, summary: &mut Summary, drafting: &mut Drafting) -> io::Result<bool> {
+fn draft(
+    lines: &mut Lines,
+    input: &mut impl Read,
+    out: &mut impl Write,
+    summary: &mut Summary,
+    drafting: &mut Drafting,
+) -> io::Result<bool> {
     for _ in 0..u64::MAX {
         if !lines.next(input, out)? {
             return Ok(false);
@@ -201,7 +214,13 @@ fn draft(lines: &mut Lines, input: &mut impl Read, out: &mut impl Write, summary
 }
 
 /// Reads the lines after the seal.
-fn judge(lines: &mut Lines, input: &mut impl Read, out: &mut impl Write, summary: &mut Summary, judging: &mut Judging) -> io::Result<()> {
+fn judge(
+    lines: &mut Lines,
+    input: &mut impl Read,
+    out: &mut impl Write,
+    summary: &mut Summary,
+    judging: &mut Judging,
+) -> io::Result<()> {
     for _ in 0..u64::MAX {
         if !lines.next(input, out)? {
             break;
@@ -227,7 +246,13 @@ fn main(rt: LibcRuntime) -> io::Result<()> {
         verdict: None,
     };
     let mut drafting = Drafting::new();
-    if draft(&mut lines, &mut input, &mut out, &mut summary, &mut drafting)? {
+    if draft(
+        &mut lines,
+        &mut input,
+        &mut out,
+        &mut summary,
+        &mut drafting,
+    )? {
         let (chart, rules) = drafting.seal();
         summary.arcs = chart.count();
         summary.reply(&mut out, Ok(Answer::Count(chart.count())))?;

@@ -235,7 +235,11 @@ impl Drafting {
 
     /// Seals the draft: the chart, and the rules beside it.
     pub fn seal(self) -> (Chart, RuleBook) {
-        let Drafting { begun: _, draft, rules } = self;
+        let Drafting {
+            begun: _,
+            draft,
+            rules,
+        } = self;
         (draft.seal(), rules)
     }
 }

@@ -123,7 +123,8 @@ impl<'a> Judging<'a> {
             return Ok(Answer::NoPlan);
         }
         let multipliers = named(items, self.rules)?;
-        match self.casebook.price(&multipliers.at[0..multipliers.count], &mut plan)? {
+        match self.casebook
+            .price(&multipliers.at[0..multipliers.count], &mut plan)? {
             Some(amount) => Ok(Answer::Amount(amount)),
             None => Ok(Answer::NoPlan),
         }

@@ -1,41 +1,33 @@
 -- A chart of two places and four arcs, with the rules once on route 1 and on route 2, route 2 before route 1, and an empty
 -- budget; and what the calls do on it. Assumes nothing.
 use mathlib.Core.Path.{_≡_}
-use mathlib.Core.List.{List, [], _∷_}
-use mathlib.Core.Bool.{Bool, true, false, cond}
+use mathlib.Core.List.{List, [], _∷_, _++_}
+use mathlib.Core.Bool.{Bool, true, false}
 use Prim.Native.Nat.{ℕ}
 use lib.IntN.{ℤ, pos, negℤ}
-use lib.Dec.{eqb}
 use Rattle.std.specs.declared.option.Option.the-variants.{Some}
 use Rattle.std.specs.declared.result.Result.the-variants.{Ok, Err}
 use Rattle.terms.specs.declared.arc.Arc.{Arc}
-use Rattle.terms.specs.declared.rule.Sense.the-variants.{AtMost, Exactly}
 use Rattle.terms.specs.declared.refusal.Refusal.the-variants.{NotClosed, BreaksRule, OneSided, MultiplierRange}
 use Rattle.terms.specs.declared.verdict.Verdict.the-variants.{Best}
 use Rattle.terms.specs.Refusals.{numberOf}
 use Rattle.plans.specs.Plans.{plans}
 use Rattle.rules.specs.Rules.{Rule}
+use Rattle.rules.specs.declared.order.Precedence.{Precedence}
+use Rattle.rules.specs.Makes.{onceRules, orderRule, orderRules, budgetRules}
 use Rattle.rules.specs.Lawful.{Problem, Lawful, total}
 use Rattle.judging.specs.Cases.{Model, opened, top}
 use Rattle.judging.specs.Calls.{claim, close, offer, onClaim, onPrice, onStrike, onSplit, onClose, onOffer, run, verdictOf}
 use Rattle.judging.specs.Theorem.{Posed}
 
--- route q once: exactly, limit 1, weight 1 for that route
-abbrev pub onceRule : ℕ → Rule
-onceRule q = record { sense = Exactly; limit = pos 1; weight = λ place route. cond (eqb route q) (pos 1) (pos 0) }
+-- route 2 is to be tested before route 1
+abbrev pub twoFirst : Precedence
+twoFirst = record { earlier = 2; later = 1 }
 
--- one route before another: at most, limit -1, weight the place's number for the earlier and minus it for the later, 0 for
--- a route that is both
-abbrev pub orderWeight : ℕ → ℕ → ℕ → ℕ → ℤ
-orderWeight earlier later place route =
-    cond (eqb route earlier) (cond (eqb route later) (pos 0) (pos place)) (cond (eqb route later) (negℤ (pos place)) (pos 0))
-
-abbrev pub orderRule : ℕ → ℕ → Rule
-orderRule earlier later = record { sense = AtMost; limit = negℤ (pos 1); weight = orderWeight earlier later }
-
--- an empty budget: at most, limit 0, no weights
-abbrev pub emptyBudget : Rule
-emptyBudget = record { sense = AtMost; limit = pos 0; weight = λ place route. pos 0 }
+-- the rules of three makes, one after another: once with the set of routes 1 and 2 (by the number of its bits), order with
+-- the one pair, budget with limit 0 and no table
+abbrev pub exampleRules : List Rule
+exampleRules = onceRules 6 ++ (orderRules (twoFirst ∷ []) ++ budgetRules (pos 0) [])
 
 -- an arc from node 0 to node 0
 abbrev pub straight : ℕ → ℕ → ℕ → Arc
@@ -45,7 +37,7 @@ abbrev pub example : Problem
 example = record {
   places = 2;
   arcs = straight 1 1 4 ∷ straight 1 2 9 ∷ straight 2 1 3 ∷ straight 2 2 10 ∷ [];
-  rules = onceRule 1 ∷ onceRule 2 ∷ orderRule 2 1 ∷ emptyBudget ∷ [];
+  rules = exampleRules;
 }
 
 -- the casebook with a claim
@@ -88,8 +80,8 @@ pub record Edges : Type 0 where
   pub nothing : onStrike example (claiming 15) (forRule0 (pos 5000)) .answer ≡ Ok 0
   pub unstruck : marks (onStrike example (claiming 15) (forRule0 (pos 5000)) .left) ≡ true ∷ true ∷ true ∷ true ∷ []
   -- rule 2 totals 0 on plan 1 2 and 2 on plan 0 3
-  pub ordered : total (example .arcs) (orderRule 2 1) (two 1 2) ≡ pos 0
-  pub disordered : total (example .arcs) (orderRule 2 1) (two 0 3) ≡ pos 2
+  pub ordered : total (example .arcs) (orderRule twoFirst) (two 1 2) ≡ pos 0
+  pub disordered : total (example .arcs) (orderRule twoFirst) (two 0 3) ≡ pos 2
   -- offer 0 2 is refused 21 with rule 0
   pub refused : onOffer example (claiming 12) (two 0 2) .answer ≡ Err (BreaksRule 0)
   pub refusal : numberOf (BreaksRule 0) ≡ (21, pos 0)

@@ -12,30 +12,39 @@ use Rattle.lines.proofs.Halting.{Live, Follows, byte-follows, is-follows}
 use Rattle.lines.proofs.Pieces.{item-follows, number-told, pair-told, triple-told, signed-live}
 use Rattle.lines.proofs.Listing.{many-follows, some-number, some-pair, some-triple, routes-follows}
 
+-- the bracket that ends a form
 pub ending : Follows Ending
 ending = is-follows 41 [] (λ d. omega arith)
 
+-- one number and that bracket
 pub one : Follows (Item Ending)
 one = item-follows Ending (ending .live)
 
+-- two numbers
 pub two : Follows (Item (Item Ending))
 two = item-follows (Item Ending) (one .live)
 
+-- three numbers
 pub three : Follows (Item (Item (Item Ending)))
 three = item-follows (Item (Item Ending)) (two .live)
 
+-- four numbers
 pub four : Follows (Item (Item (Item (Item Ending))))
 four = item-follows (Item (Item (Item Ending))) (three .live)
 
+-- pairs to the end of the line
 pub pairs-follow : Follows Pairs
 pairs-follow = many-follows pair-told some-pair []
 
+-- triples to the end of the line
 pub triples-follow : Follows Triples
 triples-follow = many-follows triple-told some-triple []
 
+-- numbers to the end of the line
 pub numbers-follow : Follows Numbers
 numbers-follow = many-follows number-told some-number []
 
+-- a limit and triples
 pub limit-live : Live (Piece signed ShortZ (λ _. Triples))
 limit-live = signed-live Triples (triples-follow .live)
 

@@ -32,6 +32,7 @@ pub record Made (w : Word) (t : List ℕ) : Type 0 where
   pub proper : Proper form
   pub whole : text form ≡ headed w t
 
+-- what follows a word makes a form
 unfoldable pub made : (w : Word) (t : List ℕ) → Body w t → Made w t
 unfolding Body headed
 made word.Casebook t e = record { form = Casebook; proper = tt; whole = after _ word.Casebook _ _ refl e }
@@ -62,6 +63,7 @@ pub record Parts (f : Form) : Type 0 where
   pub items : Body first rest
   pub whole : text f ≡ headed first rest
 
+-- every form has parts
 unfoldable pub parts : (f : Form) → Proper f → Parts f
 unfolding Body headed
 parts Casebook h = record { first = word.Casebook; rest = _; items = refl; whole = refl }
@@ -85,14 +87,17 @@ parts Verdict h = record { first = word.Verdict; rest = _; items = refl; whole =
 abbrev Line : List ℕ → Type 0
 Line = Byte 40 (Piece spelt Any Body)
 
+-- such a line is a form
 line-in : (t : List ℕ) → Line t → Formed t
 unfolding headed
 line-in t (u, (w, v, _, m, e₁), e) = let f = made w v m in record { form = f .form; proper = f .proper; whole = f .whole ∙ sym (e ∙ ap (λ x. 40 ∷ x) e₁) }
 
+-- a form is such a line
 line-out : (t : List ℕ) → Formed t → Line t
 unfolding headed
 line-out t f = let p = parts (f .form) (f .proper) in (spelt (p .first) ++ p .rest, (p .first, p .rest, tt, p .items, refl), sym (f .whole) ∙ p .whole)
 
+-- a reader of such lines is one of forms
 as-formed : {l rest : List ℕ} → Halts Line l rest → Halts Formed l rest
 as-formed {l} {rest} h = halt-wider Line Formed l rest line-in (λ t like m. line-out t m) h
 

@@ -22,6 +22,7 @@ pub record Follows (M : List ℕ → Type 0) : Type 0 where
   pub live : Live M
   pub un : Undigited M
 
+-- no text of M begins as l does
 pub halt-now : (M : List ℕ → Type 0) (l : List ℕ) → Live M → ((t : List ℕ) → Like l t → M t → ⊥) → Halts M l l
 halt-now M l live bar = record { passed = 0; stops = stop-now M l live bar; left = refl }
 
@@ -33,6 +34,7 @@ halt-after M N p l rest h back forth = record { passed = length p + h .passed; s
 pub halt-wider : (M N : List ℕ → Type 0) (l rest : List ℕ) → ((t : List ℕ) → M t → N t) → ((t : List ℕ) → Like l t → N t → M t) → Halts M l rest → Halts N l rest
 halt-wider M N l rest back forth h = halt-after N M [] l rest h back forth
 
+-- the same, of equal texts
 pub halt-at : (M : List ℕ → Type 0) (l l′ rest rest′ : List ℕ) → l ≡ l′ → rest ≡ rest′ → Halts M l′ rest′ → Halts M l rest
 halt-at M l l′ rest rest′ e f h = subst (λ x. Halts M x rest) (sym e) (subst (λ x. Halts M l′ x) (sym f) h)
 
@@ -40,13 +42,16 @@ halt-at M l l′ rest rest′ e f h = subst (λ x. Halts M x rest) (sym e) (subs
 pub byte-live : (b : ℕ) (N : List ℕ → Type 0) → Live N → Live (Byte b N)
 byte-live b N (t, n) = (b ∷ t, (t, n, refl))
 
+-- a byte that is no digit may stand after a number
 pub byte-follows : (b : ℕ) (N : List ℕ → Type 0) → (Digit b → ⊥) → Live N → Follows (Byte b N)
 byte-follows b N apart live = record { live = byte-live b N live; un = λ t m d. apart (subst Digit (ap ahead (m .2)) d) }
 
 module _ {N : List ℕ → Type 0} {l rest : List ℕ} where
+  -- another byte is next
   pub byte-none : {b : ℕ} → Live N → (rest ≡ l) × (ahead l ≡ b → ⊥) → Halts (Byte b N) l rest
   byte-none {b} live (same, bar) = subst (Halts (Byte b N) l) (sym same) (halt-now (Byte b N) l (byte-live b N live) (λ t like m. bar (sym like ∙ ap ahead (m .2))))
 
+  -- the byte is next, and what follows it halts
   pub byte-some : {b : ℕ} {l₁ : List ℕ} → l ≡ b ∷ l₁ → Halts N l₁ rest → Halts (Byte b N) l rest
   byte-some {b} {l₁} e h = subst (λ x. Halts (Byte b N) x rest) (sym e) (halt-after (Byte b N) N (b ∷ []) l₁ rest h (λ t n. (t, n, refl)) (λ t like m. subst N (sym (tail t (m .0) (m .2))) (m .1)))
     where
@@ -55,15 +60,19 @@ module _ {N : List ℕ → Type 0} {l rest : List ℕ} where
 
 -- one text, byte by byte
 module _ {p l rest : List ℕ} where
+  -- the first byte and the rest of one text
   as-is : {b : ℕ} → Halts (Byte b (Is p)) l rest → Halts (Is (b ∷ p)) l rest
   as-is {b} h = halt-wider (Byte b (Is p)) (Is (b ∷ p)) l rest (λ t m. m .2 ∙ ap (λ x. b ∷ x) (m .1)) (λ t like m. (p, refl, m)) h
 
+  -- another byte is next
   pub is-none : {b : ℕ} → (rest ≡ l) × (ahead l ≡ b → ⊥) → Halts (Is (b ∷ p)) l rest
   is-none h = as-is (byte-none (p, refl) h)
 
+  -- the byte is next, and the rest halts
   pub is-some : {b : ℕ} {l₁ : List ℕ} → l ≡ b ∷ l₁ → Halts (Is p) l₁ rest → Halts (Is (b ∷ p)) l rest
   is-some e h = as-is (byte-some e h)
 
+-- a text that begins with no digit may stand after a number
 pub is-follows : (b : ℕ) (p : List ℕ) → (Digit b → ⊥) → Follows (Is (b ∷ p))
 is-follows b p apart = record { live = (b ∷ p, refl); un = λ t m d. apart (subst Digit (ap ahead m) d) }
 
@@ -84,6 +93,7 @@ either-none a b M N l live no-a no-b = halt-now _ l (a ∷ live .0, inl (live .0
     go t like (inr m) = no-b (sym like ∙ ap ahead (m .2))
 
 module _ (a b : ℕ) (M N : List ℕ → Type 0) (l l₁ rest : List ℕ) (apart : a ≡ b → ⊥) where
+  -- the first byte is next
   pub either-left : l ≡ a ∷ l₁ → Halts M l₁ rest → Halts (Either (Byte a M) (Byte b N)) l rest
   either-left e h = halt-wider (Byte a M) (Either (Byte a M) (Byte b N)) l rest (λ t m. inl m) go (byte-some e h)
     where
@@ -91,6 +101,7 @@ module _ (a b : ℕ) (M N : List ℕ → Type 0) (l l₁ rest : List ℕ) (apart
       go t like (inl m) = m
       go t like (inr m) = absurd (apart (sym (ap ahead e) ∙ sym like ∙ ap ahead (m .2)))
 
+  -- the second byte is next
   pub either-right : l ≡ b ∷ l₁ → Halts N l₁ rest → Halts (Either (Byte a M) (Byte b N)) l rest
   either-right e h = halt-wider (Byte b N) (Either (Byte a M) (Byte b N)) l rest (λ t m. inr m) go (byte-some e h)
     where
@@ -105,6 +116,7 @@ pub record Told {X : Type 0} (text : X → List ℕ) (ok : X → Type 0) (tight 
   pub loose : (x : X) (l : List ℕ) → Open l → tight x l
 
 module _ {X : Type 0} {text : X → List ℕ} {ok : X → Type 0} {tight : X → List ℕ → Type 0} (told : Told text ok tight) {N : X → List ℕ → Type 0} (fol : (x : X) → Follows (N x)) where
+  -- what follows a piece begins with no digit
   narrow : (t : List ℕ) → Piece text ok N t → Piece text ok (λ _. Open) t
   narrow t (x, u, p, n, e) = (x, u, p, fol x .un u n, e)
 
@@ -155,5 +167,6 @@ module _ {X : Type 0} {text : X → List ℕ} {ok : X → Type 0} {tight : X →
   pub piece-once : {t t′ : List ℕ} → t ≡ t′ → (p : Piece text ok N t) (q : Piece text ok N t′) → (p .0 ≡ q .0) × (p .1 ≡ q .1)
   piece-once same (x, u, h, m, e) (y, v, k, n, f) = told .once x y u v h k (fol x .un u m) (told .loose y v (fol y .un v n)) (sym e ∙ same ∙ f)
 
+-- anything but a digit may stand after a number
 pub open-follows : Follows Open
 open-follows = record { live = ([], λ d. omega arith); un = λ t o. o }

@@ -23,6 +23,7 @@ pub record Goes (M : List ℕ → Type 0) (l l′ : List ℕ) : Type 0 where
   pub halts : (rest : List ℕ) → Halts M l′ rest → Halts M l rest
   pub whole : M l′ → M l
 
+-- before the first turn
 pub goes-none : (M : List ℕ → Type 0) (l : List ℕ) → Goes M l l
 goes-none M l = record { halts = λ r h. h; whole = λ m. m }
 
@@ -32,19 +33,23 @@ module _ {X : Type 0} {text : X → List ℕ} {ok : X → Type 0} {tight : X →
   Turn : List ℕ → Type 0
   Turn = Either (Byte 32 (Piece text ok (λ _. Many text ok (41 ∷ z)))) (Byte 41 (Is z))
 
+  -- a turn is a list
   turn-in : (t : List ℕ) → Turn t → Many text ok (41 ∷ z) t
   unfolding Turn
   turn-in t (inl (a, (x, u, h, (xs, hs, e₃), e₂), e₁)) = (x ∷ xs, (h, hs), e₁ ∙ ap (λ y. 32 ∷ y) (e₂ ∙ ap (λ y. text x ++ y) e₃ ∙ sym (append-assoc (text x) (joined (λ y. 32 ∷ text y) xs) (41 ∷ z))))
   turn-in t (inr (u, f, e)) = ([], tt, e ∙ ap (λ y. 41 ∷ y) f)
 
+  -- a list is a turn
   turn-out : (t : List ℕ) → Many text ok (41 ∷ z) t → Turn t
   unfolding Turn
   turn-out t ([], h, e) = inr (z, refl, e)
   turn-out t (x ∷ xs, (h, hs), e) = inl (_, (x, _, h, (xs, hs, refl), refl), e ∙ ap (λ y. 32 ∷ y) (append-assoc (text x) (joined (λ y. 32 ∷ text y) xs) (41 ∷ z)))
 
+  -- a reader of turns is one of lists
   as-many : {l rest : List ℕ} → Halts Turn l rest → Halts (Many text ok (41 ∷ z)) l rest
   as-many {l} {rest} h = halt-wider Turn (Many text ok (41 ∷ z)) l rest turn-in (λ t like m. turn-out t m) h
 
+  -- a list may stand after a number
   pub many-follows : Follows (Many text ok (41 ∷ z))
   many-follows = record { live = (41 ∷ z, ([], tt, refl)); un = un }
     where
@@ -94,9 +99,11 @@ module _ {X : Type 0} {text : X → List ℕ} {ok : X → Type 0} {tight : X →
 pub some-number : (n : ℕ) × Short n
 some-number = (0, omega arith)
 
+-- some pair
 pub some-pair : (x : ℕ × ℤ) × ShortPair x
 some-pair = ((0, pos 0), (omega arith, omega arith))
 
+-- some triple
 pub some-triple : (x : ℕ × ℕ × ℤ) × ShortTriple x
 some-triple = ((0, 0, pos 0), (omega arith, omega arith, omega arith))
 
@@ -104,17 +111,21 @@ some-triple = ((0, 0, pos 0), (omega arith, omega arith, omega arith))
 abbrev First : List ℕ → Type 0
 First = Either (Is (codes "))")) (Piece decimal Short (λ _. Others))
 
+-- the two brackets, or a number and others, are a list
 listed-in : (t : List ℕ) → First t → Listed t
 listed-in t (inl e) = ([], tt, e)
 listed-in t (inr (n, u, h, (ns, hs, e₂), e₁)) = (n ∷ ns, (h, hs), e₁ ∙ ap (λ y. decimal n ++ y) e₂ ∙ sym (append-assoc (decimal n) (numbers ns) (codes "))")))
 
+-- a list is one of these
 listed-out : (t : List ℕ) → Listed t → First t
 listed-out t ([], h, e) = inl e
 listed-out t (n ∷ ns, (h, hs), e) = inr (n, _, h, (ns, hs, refl), e ∙ append-assoc (decimal n) (numbers ns) (codes "))"))
 
+-- a reader of these is one of lists
 as-listed : {l rest : List ℕ} → Halts First l rest → Halts Listed l rest
 as-listed {l} {rest} h = halt-wider First Listed l rest listed-in (λ t like m. listed-out t m) h
 
+-- the other numbers may stand after a number
 others-follows : Follows Others
 others-follows = many-follows number-told some-number (codes ")")
 
@@ -127,10 +138,12 @@ list-empty None l l₁ rest e h = as-listed (halt-wider (Is (codes "))")) First 
     only t like (inr m) = absurd (omega (arith, like, ap ahead e, ap ahead (m .4), leading (m .0) (m .1) (m .2)))
 list-empty (Some a) l l₁ rest e h = ([], tt, e ∙ ap (λ y. 41 ∷ y) h)
 
+-- a list that does not begin with the bracket begins with a number
 only-number : (l t : List ℕ) → (ahead l ≡ 41 → ⊥) → Like l t → First t → Piece decimal Short (λ _. Others) t
 only-number l t bar like (inl m) = absurd (bar (sym like ∙ ap ahead m))
 only-number l t bar like (inr m) = m
 
+-- so a reader of a number and others is one of such lists
 as-numbered : (l rest : List ℕ) → (ahead l ≡ 41 → ⊥) → Halts (Piece decimal Short (λ _. Others)) l rest → Halts Listed l rest
 as-numbered l rest bar h = as-listed (halt-wider (Piece decimal Short (λ _. Others)) First l rest (λ t m. inr m) (λ t like m. only-number l t bar like m) h)
 
@@ -143,11 +156,14 @@ pub list-some : {A : Type 0} (o : Option A) (n : ℕ) (l l₁ rest : List ℕ) �
 list-some None n l l₁ rest bar h s = as-numbered l rest bar (piece-some number-told (λ _. others-follows) n h s)
 list-some (Some a) n l l₁ rest bar h m = listed-in l (inr (n, l₁, h .0, m, h .1))
 
+-- there is a list
 pub listed-live : Live Listed
 listed-live = (codes "))", ([], tt, refl))
 
+-- there is a list in brackets
 pub bracket-live : Live (Byte 40 Listed)
 bracket-live = byte-follows 40 Listed (λ d. omega arith) listed-live .live
 
+-- a list in brackets, after a blank, may stand after a number
 pub routes-follows : Follows Routes
 routes-follows = byte-follows 32 (Byte 40 Listed) (λ d. omega arith) bracket-live

@@ -21,6 +21,7 @@ use Rattle.lines.specs.Forms.{Short, ShortZ}
 use Rattle.lines.specs.Texts.{Digit, Tight, TightZ, ahead}
 use Rattle.lines.proofs.Stopping.{meet}
 
+-- ten digits fit 64 bits
 pub short-fits : (n : ℕ) → Short n → n < 2 ^ 64
 short-fits n h = omega arith
 
@@ -29,22 +30,28 @@ inner-digit : (p : List ℕ) (c : ℕ) (v : List ℕ) → Digits 10 (p ++ (c ∷
 inner-digit [] c v d = digit-from-value c (d .0)
 inner-digit (b ∷ p) c v d = inner-digit p c v (d .1)
 
+-- the text of a number is digits
 digits-of : (n : ℕ) → Short n → Digits 10 (decimal n)
 digits-of n h = decimal-reads n (short-fits n h) .0 .1
 
+-- fewer than ten digits
 up : (k : ℕ) → k < 10 → 10 ^ k ≤ 10 ^ 9
 up k lt = let le : k ≤ 9 = omega arith in let ten : 0 < 10 = omega arith in pow-le-pow-right {n = 10} ten {i = k} {j = 9} le
 
+-- a number from 10 ^ 9 on has ten digits
 long : (n : ℕ) → Short n → 10 ^ 9 ≤ n → 10 ≤ length (decimal n)
 long n h big = ⊎-elim (λ lt. absurd (omega (arith, value-lt 10 (decimal n) (digits-of n h), decimal-reads n (short-fits n h) .1, up (length (decimal n)) lt))) (λ le. le) (cases-lt (length (decimal n)) 10)
 
+-- the text of 0
 pub zero-text : decimal 0 ≡ 48 ∷ []
 zero-text = decimal-digit 0 (omega arith)
 
+-- a number is 0 or more
 nought : (m : ℕ) → (m ≡ 0) ⊎ (0 < m)
 nought zero = inl refl
 nought (suc m) = inr (omega arith)
 
+-- a text begins with one number, where no digit follows it, or none could
 pub once : (m n : ℕ) (u t : List ℕ) → Short m → Short n → (Digit (ahead u) → ⊥) → Tight n t → decimal m ++ u ≡ decimal n ++ t → (m ≡ n) × (u ≡ t)
 once m n u t hm hn bare tight e = go (meet (decimal m) u (decimal n) t e)
   where
@@ -92,6 +99,7 @@ leading n u h = go (decimal n) (digits-of n h) (decimal-some n (short-fits n h))
     go [] d s = absurd (omega arith)
     go (c ∷ ds) d s = digit-from-value c (d .0)
 
+-- the same of a signed number
 pub once-signed : (y z : ℤ) (u t : List ℕ) → ShortZ y → ShortZ z → (Digit (ahead u) → ⊥) → TightZ z t → signed y ++ u ≡ signed z ++ t → (y ≡ z) × (u ≡ t)
 once-signed (pos m) (pos n) u t hm hn bare tight e = let o = once m n u t hm hn bare tight e in (ap pos (o .0), o .1)
 once-signed (pos m) (negsuc n) u t hm hn bare tight e = absurd (omega (arith, leading m u hm, ap ahead e))
@@ -104,6 +112,7 @@ once-signed (negsuc m) (negsuc n) u t hm hn bare tight e =
     tail : (a b : List ℕ) → 45 ∷ a ≡ 45 ∷ b → a ≡ b
     tail a b e = cc
 
+-- a number other than 0 begins with a digit from 1 to 9
 pub leading-most : (n : ℕ) (u : List ℕ) → 0 < n → Short n → (48 < ahead (decimal n ++ u)) × (ahead (decimal n ++ u) ≤ 57)
 leading-most n u some h =
     let same = getD-append-left (decimal n) u 0 0 (decimal-some n (short-fits n h)) in
@@ -113,12 +122,15 @@ leading-most n u some h =
 abbrev pub turned : ℕ → ℤ
 turned n = toZ w64 (ofZ w64 (pos 0 -ℤ toZ w64 n))
 
+-- it is minus n
 turned-is : (n : ℕ) → 0 < n → Short n → turned n ≡ negsuc (n - 1)
 turned-is n some h = omega (arith, ints)
 
+-- a text that begins with a digit from 1 to 9 is no 0
 positive : (n : ℕ) (rest : List ℕ) → 48 < ahead (decimal n ++ rest) → 0 < n
 positive n rest big = ⊎-elim (λ z. absurd (omega (arith, ap (λ m. ahead (decimal m ++ rest)) z, ap (λ d. ahead (d ++ rest)) zero-text))) (λ some. some) (nought n)
 
+-- a minus and a number are a signed number
 pub minus : (l l₁ rest : List ℕ) (n : ℕ) → l ≡ 45 ∷ l₁ → 48 < ahead l₁ → Short n → l₁ ≡ decimal n ++ rest → Tight n rest → ShortZ (turned n) × (l ≡ signed (turned n) ++ rest) × TightZ (turned n) rest
 minus l l₁ rest n e big h f tight =
     let some = positive n rest (subst (λ t. 48 < ahead t) f big) in

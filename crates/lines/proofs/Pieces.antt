@@ -16,6 +16,7 @@ use Rattle.lines.proofs.Stopping.{Like}
 use Rattle.lines.proofs.Numerals.{once, once-signed, leading, leading-most}
 use Rattle.lines.proofs.Halting.{Live, Follows, Told, halt-now, halt-after, halt-wider, byte-some, open-follows}
 
+-- what follows one byte
 tail : (b : ℕ) (p q : List ℕ) → b ∷ p ≡ b ∷ q → p ≡ q
 tail b p q e = cc
 
@@ -23,9 +24,11 @@ tail b p q e = cc
 pub number-told : Told decimal Short Tight
 number-told = record { once = once; like = λ n l t like tight d. tight (subst Digit like d); loose = λ n l bare d. absurd (bare d) }
 
+-- there is a number
 pub number-live : (N : List ℕ → Type 0) → Live N → Live (Piece decimal Short (λ _. N))
 number-live N (t, n) = (decimal 0 ++ t, (0, t, omega arith, n, refl))
 
+-- no digit is next
 number-none : (N : List ℕ → Type 0) (l : List ℕ) → Live N → Open l → Halts (Piece decimal Short (λ _. N)) l l
 number-none N l live bar = halt-now _ l (number-live N live) (λ t like m. bar (subst Digit like (subst (λ x. Digit (ahead x)) (sym (m .4)) (leading (m .0) (m .1) (m .2)))))
 
@@ -45,6 +48,7 @@ signed-told = record { once = once-signed; like = go; loose = bare }
     bare (pos n) l o = λ d. absurd (o d)
     bare (negsuc n) l o = λ d. absurd (o d)
 
+-- there is a signed number
 pub signed-live : (N : List ℕ → Type 0) → Live N → Live (Piece signed ShortZ (λ _. N))
 signed-live N (t, n) = (decimal 0 ++ t, (pos 0, t, omega arith, n, refl))
 
@@ -77,9 +81,11 @@ minus-none N l l₁ live e bar = subst (λ x. Halts Signed x l₁) (sym e) (halt
 pub item-told : Told number Short Tight
 item-told = record { once = λ m n u t hm hn bare tight e. once m n u t hm hn bare tight (tail 32 _ _ e); like = number-told .like; loose = number-told .loose }
 
+-- a number after a blank may stand after a number
 pub item-follows : (N : List ℕ → Type 0) → Live N → Follows (Item N)
 item-follows N (t, n) = record { live = (number 0 ++ t, (0, t, omega arith, n, refl)); un = λ t m d. omega (arith, ap ahead (m .4)) }
 
+-- a blank and a number
 pub as-item : (N : List ℕ → Type 0) {l rest : List ℕ} → Halts (Byte 32 (Piece decimal Short (λ _. N))) l rest → Halts (Item N) l rest
 as-item N {l} {rest} h = halt-wider (Byte 32 (Piece decimal Short (λ _. N))) (Item N) l rest into (λ t like m. out t m) h
   where
@@ -98,10 +104,12 @@ item-takes (Some n) l l₁ rest e (short, f, tight) = (short, e ∙ ap (λ x. 32
 amount-text : (z : ℤ) (u : List ℕ) → amount z ++ u ≡ 32 ∷ (signed z ++ (41 ∷ u))
 amount-text z u = ap (λ t. 32 ∷ t) (append-assoc (signed z) (41 ∷ []) u)
 
+-- no digit follows where the bracket does
 tight-close : (z : ℤ) (t : List ℕ) → TightZ z (41 ∷ t)
 tight-close (pos n) t = λ d. absurd (omega arith)
 tight-close (negsuc n) t = λ d. absurd (omega arith)
 
+-- a text begins with one amount
 pub amount-told : Told amount ShortZ Free
 amount-told = record { once = one; like = λ x l t like f. f; loose = λ x l o. tt }
   where
@@ -110,12 +118,15 @@ amount-told = record { once = one; like = λ x l t like f. f; loose = λ x l o. 
         let o = once-signed y z (41 ∷ u) (41 ∷ t) hy hz (λ d. omega arith) (tight-close z t) (tail 32 _ _ (sym (amount-text y u) ∙ e ∙ amount-text z t)) in
         (o .0, tail 41 _ _ (o .1))
 
+-- an amount, and then a text of N
 abbrev Amount : (List ℕ → Type 0) → List ℕ → Type 0
 Amount N = Piece amount ShortZ (λ _. N)
 
+-- an amount may stand after a number
 pub amount-follows : (N : List ℕ → Type 0) → Live N → Follows (Amount N)
 amount-follows N (t, n) = record { live = (amount (pos 0) ++ t, (pos 0, t, omega arith, n, refl)); un = λ t m d. omega (arith, ap ahead (m .4)) }
 
+-- a blank, a signed number and the bracket
 pub as-amount : (N : List ℕ → Type 0) {l rest : List ℕ} → Halts (Byte 32 (Piece signed ShortZ (λ _. Byte 41 N))) l rest → Halts (Amount N) l rest
 as-amount N {l} {rest} h = halt-wider (Byte 32 (Piece signed ShortZ (λ _. Byte 41 N))) (Amount N) l rest into (λ t like m. out t m) h
   where
@@ -140,6 +151,7 @@ amount-whole z l l₁ l₂ l₃ e₁ (h, e₂, _) e₃ =
 pub pair-text : (n : ℕ) (z : ℤ) (u : List ℕ) → pair (n, z) ++ u ≡ 40 ∷ (decimal n ++ (amount z ++ u))
 pair-text n z u = ap (λ t. 40 ∷ t) (append-assoc (decimal n) (amount z) u)
 
+-- a text begins with one pair
 pub pair-told : Told pair ShortPair Free
 pair-told = record { once = one; like = λ x l t like f. f; loose = λ x l o. tt }
   where
@@ -149,6 +161,7 @@ pair-told = record { once = one; like = λ x l t like f. f; loose = λ x l o. tt
         let b = amount-told .once y z u t hy hz bare tt (a .1) in
         ((λ i. (a .0 i, b .0 i)), b .1)
 
+-- a bracket, a number and an amount
 pub as-pair : (N : List ℕ → Type 0) {l rest : List ℕ} → Halts (Byte 40 (Piece decimal Short (λ _. Amount N))) l rest → Halts (Piece pair ShortPair (λ _. N)) l rest
 as-pair N {l} {rest} h = halt-wider (Byte 40 (Piece decimal Short (λ _. Amount N))) (Piece pair ShortPair (λ _. N)) l rest into (λ t like m. out t m) h
   where
@@ -168,6 +181,7 @@ pair-whole n z l l₁ l₂ l₃ e₁ (hn, e₂, _) (hz, e₃, _) =
 pub triple-text : (m n : ℕ) (z : ℤ) (u : List ℕ) → triple (m, n, z) ++ u ≡ 40 ∷ (decimal m ++ (number n ++ (amount z ++ u)))
 triple-text m n z u = ap (λ t. 40 ∷ t) (append-assoc (decimal m) (number n ++ amount z) u ∙ ap (λ t. decimal m ++ t) (append-assoc (number n) (amount z) u))
 
+-- a text begins with one triple
 pub triple-told : Told triple ShortTriple Free
 triple-told = record { once = one; like = λ x l t like f. f; loose = λ x l o. tt }
   where
@@ -178,6 +192,7 @@ triple-told = record { once = one; like = λ x l t like f. f; loose = λ x l o. 
         let c = amount-told .once y z u t hy hz bare tt (b .1) in
         ((λ i. (a .0 i, b .0 i, c .0 i)), c .1)
 
+-- a bracket, two numbers and an amount
 pub as-triple : (N : List ℕ → Type 0) {l rest : List ℕ} → Halts (Byte 40 (Piece decimal Short (λ _. Item (Amount N)))) l rest → Halts (Piece triple ShortTriple (λ _. N)) l rest
 as-triple N {l} {rest} h = halt-wider (Byte 40 (Piece decimal Short (λ _. Item (Amount N)))) (Piece triple ShortTriple (λ _. N)) l rest into (λ t like m. out t m) h
   where

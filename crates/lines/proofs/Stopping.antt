@@ -13,6 +13,7 @@ use Rattle.lines.specs.Texts.{Stops, ahead}
 abbrev pub Like : List ℕ → List ℕ → Type 0
 Like l t = ahead t ≡ ahead l
 
+-- no text of M begins as l does
 pub stop-now : (M : List ℕ → Type 0) (l : List ℕ) → ((t : List ℕ) × M t) → ((t : List ℕ) → Like l t → M t → ⊥) → Stops M l 0
 stop-now M [] live bar = record { within = omega arith; before = live; here = λ lt t m. absurd (omega arith); whole = bar [] refl }
 stop-now M (b ∷ l) live bar = record { within = omega arith; before = live; here = λ lt t m. bar (b ∷ t) refl m; whole = bar (b ∷ l) refl }
@@ -30,6 +31,7 @@ stop-byte M N b l k s back forth = record {
     go [] s forth lt t m = absurd (omega arith)
     go (c ∷ l) s forth lt t m = s .here lt t (subst (λ i. N (take i (c ∷ l) ++ t)) (sym (add-one k)) (forth _ refl m))
 
+-- after the bytes p, the texts of N follow
 pub stop-after : (M N : List ℕ → Type 0) (p l : List ℕ) (k : ℕ) → Stops N l k → ((t : List ℕ) → N t → M (p ++ t)) → ((t : List ℕ) → Like l t → M (p ++ t) → N t) → Stops M (p ++ l) (length p + k)
 stop-after M N [] l k s back forth = subst (Stops M l) (sym (zero-add k)) (record {
   within = s .within;

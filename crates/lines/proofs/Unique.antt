@@ -25,6 +25,7 @@ use Rattle.lines.proofs.Wording.{word-told}
 use Rattle.lines.proofs.Forming.{made, parts}
 use Rattle.lines.proofs.Yielding.{open-many}
 
+-- what follows one byte
 tail : (b : ℕ) (p q : List ℕ) → b ∷ p ≡ b ∷ q → p ≡ q
 tail b p q e = cc
 
@@ -38,9 +39,11 @@ many-once {text} told z (x ∷ xs) (y ∷ ys) (h, hs) (k, ks) e =
     (sym (append-assoc (text x) (joined (λ q. 32 ∷ text q) xs) (41 ∷ z)) ∙ tail 32 _ _ e ∙ append-assoc (text y) (joined (λ q. 32 ∷ text q) ys) (41 ∷ z)) in
     λ i. o .0 i ∷ many-once told z xs ys hs ks (o .1) i
 
+-- two ways to read a list are one
 many-same : {X : Type 0} {text : X → List ℕ} {ok : X → Type 0} {tight : X → List ℕ → Type 0} (told : Told text ok tight) (z t t′ : List ℕ) → t ≡ t′ → (p : Many text ok (41 ∷ z) t) (q : Many text ok (41 ∷ z) t′) → p .0 ≡ q .0
 many-same told z t t′ same (xs, h, e) (ys, k, f) = many-once told z xs ys h k (sym e ∙ same ∙ f)
 
+-- the same of a list in brackets
 listed-same : (t t′ : List ℕ) → t ≡ t′ → (p : Listed t) (q : Listed t′) → p .0 ≡ q .0
 listed-same t t′ same ([], h, e) ([], k, f) = refl
 listed-same t t′ same ([], h, e) (n ∷ ns, (k, ks), f) = absurd (omega (arith, ap ahead (sym e ∙ same ∙ f ∙ append-assoc (decimal n) (numbers ns) (codes "))")), leading n (numbers ns ++ codes "))") k))
@@ -50,6 +53,7 @@ listed-same t t′ same (m ∷ ms, (h, hs), e) (n ∷ ns, (k, ks), f) =
     (sym (append-assoc (decimal m) (numbers ms) (codes "))")) ∙ sym e ∙ same ∙ f ∙ append-assoc (decimal n) (numbers ns) (codes "))")) in
     λ i. o .0 i ∷ many-once number-told (codes ")") ms ns hs ks (o .1) i
 
+-- the same of one number
 one-same : (t t′ : List ℕ) → t ≡ t′ → (p : Item Ending t) (q : Item Ending t′) → p .0 ≡ q .0
 one-same t t′ same p q = piece-once item-told (λ _. ending) same p q .0
 
@@ -115,6 +119,7 @@ same-parts w v s t p q same e = go w same s e p
     go : (w : Word) → w ≡ v → (s : List ℕ) → s ≡ t → (p : Body w s) → made w s p .form ≡ made v t q .form
     go w same s e p = subst (λ x. (p : Body x s) → made x s p .form ≡ made v t q .form) (sym same) (at s e) p
 
+-- a text is that of one form
 one-form : (f g : Form) → Proper f → Proper g → text f ≡ text g → f ≡ g
 unfolding headed
 one-form f g h k e =
@@ -127,6 +132,7 @@ one-form f g h k e =
 begins-front : (l : List ℕ) (k : ℕ) → Formed l → Begins (take k l)
 begins-front l k f = (drop k l, subst Formed (sym (take-append-drop k l)) f)
 
+-- no form has an impossible byte
 never-both : (l : List ℕ) (k : ℕ) → First-impossible l k → Formed l → ⊥
 never-both l k (inl s) f = s .impossible (begins-front l k f)
 never-both l k (inr s) f = s .none f
@@ -135,6 +141,7 @@ never-both l k (inr s) f = s .none f
 begins-all : (l : List ℕ) (k : ℕ) → Begins l → Begins (take k l)
 begins-all l k (t, m) = (drop k l ++ t, subst Formed (ap (λ x. x ++ t) (sym (take-append-drop k l)) ∙ append-assoc (take k l) (drop k l) t) m)
 
+-- a line has one first impossible byte
 one-byte : (l : List ℕ) (j k : ℕ) → First-impossible l j → First-impossible l k → j ≡ k
 one-byte l j k (inl a) (inl b) = go (cases-lt j k) (cases-lt k j)
   where
@@ -146,5 +153,6 @@ one-byte l j k (inl a) (inr b) = absurd (a .impossible (begins-all l j (b .begin
 one-byte l j k (inr a) (inl b) = absurd (b .impossible (begins-all l k (a .begins)))
 one-byte l j k (inr a) (inr b) = omega (arith, a .past, b .past)
 
+-- a line is read in one way
 pub one-reading : One-reading
 one-reading = record { form = one-form; either = never-both; byte = one-byte }

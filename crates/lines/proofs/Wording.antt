@@ -50,8 +50,10 @@ pub record Agrees (l p : List ℕ) (n : ℕ) : Type 0 where
   pub in-text : n ≤ length l
   pub in-word : n < length p
   pub same : take n l ≡ take n p
+  -- no word of a form begins another
   pub apart : n < length l → n < length p → getD l n 0 ≡ getD p n 0 → ⊥
 
+-- there a text stops to begin with the word
 stops-agreed : (l p : List ℕ) (n : ℕ) → Agrees l p n → Stops (Starts p) l n
 stops-agreed l p n a = record {
   within = a .in-text;
@@ -69,9 +71,11 @@ pub record Tried (i : ℕ) (l : List ℕ) (best : ℕ) : Type 0 where
   pub live : (t : List ℕ) × AnyWord (take best l ++ t)
   pub each : (j : ℕ) → j < i → (k : ℕ) × (k ≤ best) × Stops (Starts (spelt (getD words j Casebook))) l k
 
+-- before the first word
 pub tried-none : (l : List ℕ) → Tried 0 l 0
 tried-none l = record { within = omega arith; live = (spelt Seal, (Seal, [], tt, (λ d. omega arith), sym (append-nil (spelt Seal)))); each = λ j lt. absurd (omega arith) }
 
+-- one more word that does not begin the text
 pub tried-more : (i : ℕ) (l : List ℕ) (best n b : ℕ) → Tried i l best → Agrees l (spelt (getD words i Casebook)) n → ((b ≡ n) × (best ≤ n)) ⊎ ((b ≡ best) × (n ≤ best)) → Tried (i + 1) l b
 tried-more i l best n b s a (inl (e, le)) = record {
   within = omega (arith, a .in-text);
@@ -119,6 +123,7 @@ literal-none l p n a =
       stops = record { within = s .within; before = (drop n p, ap (λ t. t ++ drop n p) (a .same) ∙ take-append-drop n p); here = λ lt t m. s .here lt t ([], m ∙ sym (append-nil p)); whole = λ m. s .whole ([], m ∙ sym (append-nil p)) };
     }
 
+-- the text is there, and what follows it
 pub literal-some : {X : Type 0} (o : Option X) (l p l₁ rest : List ℕ) → l ≡ p ++ l₁ → Ends (Is []) l₁ o rest → Ends (Is p) l o rest
 literal-some None l p l₁ rest e h =
     subst (λ x. Halts (Is p) x rest) (sym e)
@@ -131,14 +136,17 @@ differ [] q = false
 differ (a ∷ p) [] = false
 differ (a ∷ p) (b ∷ q) = cond (eqb a b) (differ p q) true
 
+-- p and no word of the list begin each other
 all-differ : List ℕ → List (List ℕ) → Bool
 all-differ p [] = true
 all-differ p (q ∷ qs) = differ p q && all-differ p qs
 
+-- no word of the list begins another
 pairwise : List (List ℕ) → Bool
 pairwise [] = true
 pairwise (p ∷ ps) = all-differ p ps && pairwise ps
 
+-- two texts that begin with such words differ
 differs : (p q t u : List ℕ) → differ p q ≡ true → p ++ t ≡ q ++ u → ⊥
 unfolding differ
 differs [] q t u d e = false≢true d
@@ -147,12 +155,14 @@ differs (a ∷ p) (b ∷ q) t u d e =
     let same : a ≡ b = cc in
     differs p q t u (sym (cond-true (eqb a b) (differ p q) true (eq-eqb a b same)) ∙ d) (cc)
 
+-- the same, by the place in the list
 differs-at : (p : List ℕ) (qs : List (List ℕ)) (j : ℕ) → all-differ p qs ≡ true → j < length qs → differ p (getD qs j []) ≡ true
 unfolding all-differ
 differs-at p [] j d lt = absurd (omega arith)
 differs-at p (q ∷ qs) zero d lt = and-parts (differ p q) (all-differ p qs) d .0
 differs-at p (q ∷ qs) (suc j) d lt = differs-at p qs j (and-parts (differ p q) (all-differ p qs) d .1) (omega arith)
 
+-- a text begins with at most one word of such a list
 unique : (ps : List (List ℕ)) → pairwise ps ≡ true → (i j : ℕ) → i < length ps → j < length ps → (t u : List ℕ) → getD ps i [] ++ t ≡ getD ps j [] ++ u → i ≡ j
 unfolding pairwise
 unique [] h i j li lj t u e = absurd (omega arith)
@@ -165,9 +175,11 @@ apart : pairwise (map spelt words) ≡ true
 unfolding pairwise all-differ differ
 apart = refl
 
+-- the spelling of a word, by its place
 spelt-at : (w : Word) → getD (map spelt words) (place w .0) [] ≡ spelt w
 spelt-at w = getD-map spelt words (place w .0) Casebook [] (place w .1) ∙ ap spelt (place w .2)
 
+-- a text begins with at most one word of a form
 one-word : (w v : Word) (t u : List ℕ) → spelt w ++ t ≡ spelt v ++ u → w ≡ v
 one-word w v t u e =
     let same = unique (map spelt words) apart (place w .0) (place v .0) (place w .1) (place v .1) t u (ap (λ p. p ++ t) (spelt-at w) ∙ e ∙ ap (λ p. p ++ u) (sym (spelt-at v))) in

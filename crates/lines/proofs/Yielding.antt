@@ -27,9 +27,11 @@ open-many text (x ∷ xs) z = λ d. omega arith
 
 -- the first item, where l begins with it: it is there, and is read in one way
 module _ {X : Type 0} {text : X → List ℕ} {ok : X → Type 0} {tight : X → List ℕ → Type 0} (told : Told text ok tight) (x : X) (xs : List X) (z l : List ℕ) (good : ok x) (e : l ≡ text x ++ (joined (λ y. 32 ∷ text y) xs ++ (41 ∷ z))) where
+  -- it is there
   there : (rest : List ℕ) → Halts (Piece text ok (λ _. Open)) l rest → ⊥
   there rest h = h .stops .whole (x, _, good, open-many text xs z, e)
 
+  -- it is read in one way
   same : (y : X) (rest : List ℕ) → ok y × (l ≡ text y ++ rest) × tight y rest → (y ≡ x) × (rest ≡ joined (λ y. 32 ∷ text y) xs ++ (41 ∷ z))
   same y rest (fine, f, close) = let o = told .once x y (joined (λ y. 32 ∷ text y) xs ++ (41 ∷ z)) rest good fine (open-many text xs z) close (sym e ∙ f) in (sym (o .0), sym (o .1))
 
@@ -48,10 +50,12 @@ next-number n ns c h l f = go (h .written)
     go (inl e) = f ∙ ap (drop 1) e ∙ append-assoc (decimal n) (numbers ns) (41 ∷ h .after)
     go (inr e) = next-many decimal n ns (41 ∷ h .after) (c .text .now) l e f
 
+-- no number is read: there is none
 pub number-none : (ns : List ℕ) (c : NumberItems) (l rest : List ℕ) → HoldsNumbers ns c → l ≡ drop 1 (c .text .now) → Halts (Piece decimal Short (λ _. Open)) l rest → Splits HoldsNumbers ns None
 number-none [] c l rest h f s = refl
 number-none (n ∷ ns) c l rest h f s = absurd (there number-told n ns (h .after) l (h .short .0) (next-number n ns c h l f) rest s)
 
+-- a number is read: it is the first
 pub number-some : (ns : List ℕ) (c d : NumberItems) (l : List ℕ) (m : ℕ) → HoldsNumbers ns c → l ≡ drop 1 (c .text .now) → Short m × (l ≡ decimal m ++ d .text .now) × Tight m (d .text .now) → Splits HoldsNumbers ns (Some (m, d))
 number-some [] c d l m h f (short, e, tight) = absurd (go (h .written) (h .ends))
   where
@@ -71,6 +75,7 @@ pub pair-none : (xs : List (ℕ × ℤ)) (c : PairItems) (l rest : List ℕ) →
 pair-none [] c l rest h f s = refl
 pair-none (x ∷ xs) c l rest h f s = absurd (there pair-told x xs [] l (h .short .0) (next-many pair x xs (codes ")") (c .text .now) l (h .written) f) rest s)
 
+-- a pair is read: it is the first
 pub pair-some : (xs : List (ℕ × ℤ)) (c d : PairItems) (l : List ℕ) (y : ℕ × ℤ) → HoldsPairs xs c → l ≡ drop 1 (c .text .now) → ShortPair y × (l ≡ pair y ++ d .text .now) × Free y (d .text .now) → Splits HoldsPairs xs (Some (y, d))
 pair-some [] c d l y h f (short, e, _) = absurd (omega (arith, ap length (sym e ∙ f ∙ ap (drop 1) (h .written))))
 pair-some (x ∷ xs) c d l y h f r =
@@ -82,6 +87,7 @@ pub triple-none : (xs : List (ℕ × ℕ × ℤ)) (c : TripleItems) (l rest : Li
 triple-none [] c l rest h f s = refl
 triple-none (x ∷ xs) c l rest h f s = absurd (there triple-told x xs [] l (h .short .0) (next-many triple x xs (codes ")") (c .text .now) l (h .written) f) rest s)
 
+-- a triple is read: it is the first
 pub triple-some : (xs : List (ℕ × ℕ × ℤ)) (c d : TripleItems) (l : List ℕ) (y : ℕ × ℕ × ℤ) → HoldsTriples xs c → l ≡ drop 1 (c .text .now) → ShortTriple y × (l ≡ triple y ++ d .text .now) × Free y (d .text .now) → Splits HoldsTriples xs (Some (y, d))
 triple-some [] c d l y h f (short, e, _) = absurd (omega (arith, ap length (sym e ∙ f ∙ ap (drop 1) (h .written))))
 triple-some (x ∷ xs) c d l y h f r =

@@ -119,6 +119,11 @@ abbrev pub Takes : {X : Type 0} → (X → List ℕ) → (X → Type 0) → (X �
 Takes text ok tight l None rest = Halts (Piece text ok (λ _. Open)) l rest
 Takes text ok tight l (Some x) rest = ok x × (l ≡ text x ++ rest) × tight x rest
 
+-- what a reader of the end of a line answers that hands x on: x where l is of M, or it stands where no text of M goes on
+abbrev pub Keeps : {X : Type 0} → (List ℕ → Type 0) → X → List ℕ → Option X → List ℕ → Type 0
+Keeps M x l None rest = Halts M l rest
+Keeps M x l (Some y) rest = (y ≡ x) × M l
+
 -- what a reader of the end of a line answers: l is of M, or it stands where no text of M goes on
 abbrev pub Ends : {X : Type 0} → (List ℕ → Type 0) → List ℕ → Option X → List ℕ → Type 0
 Ends M l None rest = Halts M l rest

@@ -19,13 +19,13 @@ ghost use Rattle.std.specs.Written.{signed};
 
 /// What is left of a line.
 #[derive(Drop)]
-pub struct Reader<'a> {
+pub(crate) struct Reader<'a> {
     pub(crate) rest: &'a [u8],
 }
 
 impl<'a> Reader<'a> {
     /// A reader of all of `line`.
-    pub fn new(line: &'a [u8]) -> Reader<'a>
+    pub(crate) fn new(line: &'a [u8]) -> Reader<'a>
         ensures { λ r. ⌜ r .rest .now ≡ now (line .entry) ⌝ }
     {
         Reader { rest: line }
@@ -34,7 +34,7 @@ impl<'a> Reader<'a> {
 
 impl Reader<'_> {
     /// The place in `line`, from 1, of the next byte.
-    pub fn place(&self, line: &[u8]) -> u16
+    pub(crate) fn place(&self, line: &[u8]) -> u16
         requires { ⌜ length (now self .rest .now) ≤ length (now line) ⌝ ∗ ⌜ length (now line) ≤ 4096 ⌝ }
         ensures { λ r. ⌜ r ≡ length (now (line .entry)) - length (now (self .entry) .rest .now) + 1 ⌝ }
     {
@@ -53,7 +53,7 @@ impl Reader<'_> {
     }
 
     /// Passes one character.
-    pub fn skip(&mut self)
+    pub(crate) fn skip(&mut self)
         ensures { λ _. ⌜ now (self .exit) .rest .now ≡ drop 1 (now (self .entry) .rest .now) ⌝ }
     {
         if self.rest.len() > 0 {
@@ -97,7 +97,7 @@ impl Reader<'_> {
     }
 
     /// A number of at most ten digits, with no idle zero.
-    pub fn number(&mut self) -> Option<u64>
+    pub(crate) fn number(&mut self) -> Option<u64>
         ensures { λ r. ⌜ Counts (now (self .entry) .rest .now) r (now (self .exit) .rest .now) ⌝ }
     {
         let mut n = digit(self.peek())?;

@@ -6,7 +6,7 @@ ghost use Rattle.lines.specs.Words.{spelt, words};
 
 /// The word of a form.
 #[derive(Clone, Copy)]
-pub enum Word {
+pub(crate) enum Word {
     Casebook,
     Places,
     Arc,
@@ -27,10 +27,10 @@ pub enum Word {
 
 impl Word {
     /// How many words there are.
-    pub const COUNT: usize = 16;
+    pub(crate) const COUNT: usize = 16;
 
     /// The word at place `i` of the list of words.
-    pub fn nth(i: usize) -> Word
+    pub(crate) fn nth(i: usize) -> Word
         requires { ⌜ i < 16 ⌝ }
         ensures { λ r. ⌜ r ≡ getD words i Word.Casebook ⌝ }
     {
@@ -55,7 +55,7 @@ impl Word {
     }
 
     /// How the word is written.
-    pub fn spelling(self) -> &'static [u8]
+    pub(crate) fn spelling(self) -> &'static [u8]
         ensures { λ r. ⌜ now r ≡ spelt self ⌝ }
     {
         match self {

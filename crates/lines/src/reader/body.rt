@@ -1,7 +1,7 @@
 //! What follows the word of a form, to the end of the line.
 use super::Reader;
+use crate::form::Form;
 use crate::form::NumberItems;
-use crate::form::PairItems;
 use crate::form::TripleItems;
 use terms::arc::NewArc;
 ghost use mathlib.Core.List.{List, _∷_, _++_};
@@ -9,7 +9,7 @@ ghost use mathlib.Core.Path.{_≡_};
 ghost use Prim.Native.Nat.{ℕ};
 ghost use lib.Chars.{codes};
 ghost use Rattle.lines.specs.Forms.{Short, ShortZ, number};
-ghost use Rattle.lines.specs.Texts.{Ends, Halts, Is, Item, Limited, Listed, Numbers, Others, Pairs, Routes, Triples};
+ghost use Rattle.lines.specs.Texts.{Ends, Halts, Is, Item, Keeps, Limited, Listed, Numbers, Others, Pairs, Routes, Triples};
 ghost use Rattle.lines.specs.Words.{Ending};
 ghost use Rattle.std.specs.Options.{Cases};
 ghost use Rattle.std.specs.Written.{signed};
@@ -20,6 +20,14 @@ impl<'a> Reader<'a> {
         ensures { λ r. ⌜ Ends (Is (codes " 1)")) (now (self .entry) .rest .now) r (now (self .exit) .rest .now) ⌝ }
     {
         self.literal(b" 1)")
+    }
+
+    /// No items: `form` is whole.
+    pub(super) fn bare(&mut self, form: Form<'a>) -> Option<Form<'a>>
+        ensures { λ r. ⌜ Keeps Ending (form .entry) (now (self .entry) .rest .now) r (now (self .exit) .rest .now) ⌝ }
+    {
+        self.finish()?;
+        Some(form)
     }
 
     /// One number.
@@ -112,11 +120,10 @@ impl<'a> Reader<'a> {
         Some((place, routes))
     }
 
-    /// Numbers, each after a blank.
-    pub(super) fn numbers(&mut self) -> Option<NumberItems<'a>>
-        ensures { λ r. ⌜ Cases r (Halts Numbers (now (self .entry) .rest .now) (now (self .exit) .rest .now)) (λ c. Numbers (c .text .now) × (c .text .now ≡ now (self .entry) .rest .now)) ⌝ }
+    /// Numbers, each after a blank, as `form` has them.
+    pub(super) fn numbers(&mut self, form: Form<'a>) -> Option<Form<'a>>
+        ensures { λ r. ⌜ Keeps Numbers (form .entry) (now (self .entry) .rest .now) r (now (self .exit) .rest .now) ⌝ }
     {
-        let text = self.rest;
         loop {
             match self.peek() {
                 ' ' => {
@@ -126,20 +133,17 @@ impl<'a> Reader<'a> {
                 ')' => {
                     self.skip();
                     self.end()?;
-                    return Some(NumberItems { text });
+                    return Some(form);
                 }
                 _ => return None,
             }
         }
     }
-}
 
-impl<'a> Reader<'a> {
-    /// Pairs, each after a blank.
-    pub(super) fn pairs(&mut self) -> Option<PairItems<'a>>
-        ensures { λ r. ⌜ Cases r (Halts Pairs (now (self .entry) .rest .now) (now (self .exit) .rest .now)) (λ c. Pairs (c .text .now) × (c .text .now ≡ now (self .entry) .rest .now)) ⌝ }
+    /// Pairs, each after a blank, as `form` has them.
+    pub(super) fn pairs(&mut self, form: Form<'a>) -> Option<Form<'a>>
+        ensures { λ r. ⌜ Keeps Pairs (form .entry) (now (self .entry) .rest .now) r (now (self .exit) .rest .now) ⌝ }
     {
-        let text = self.rest;
         loop {
             match self.peek() {
                 ' ' => {
@@ -149,7 +153,7 @@ impl<'a> Reader<'a> {
                 ')' => {
                     self.skip();
                     self.end()?;
-                    return Some(PairItems { text });
+                    return Some(form);
                 }
                 _ => return None,
             }

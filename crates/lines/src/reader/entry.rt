@@ -23,7 +23,7 @@ impl Reader<'_> {
     }
 
     /// (rule multiplier)
-    pub fn pair(&mut self) -> Option<(u64, i64)>
+    pub(crate) fn pair(&mut self) -> Option<(u64, i64)>
         ensures { λ r. ⌜ Takes pair ShortPair Free (now (self .entry) .rest .now) r (now (self .exit) .rest .now) ⌝ }
     {
         self.pass('(')?;
@@ -33,7 +33,7 @@ impl Reader<'_> {
     }
 
     /// (place route weight)
-    pub fn triple(&mut self) -> Option<(u64, u64, i64)>
+    pub(crate) fn triple(&mut self) -> Option<(u64, u64, i64)>
         ensures { λ r. ⌜ Takes triple ShortTriple Free (now (self .entry) .rest .now) r (now (self .exit) .rest .now) ⌝ }
     {
         self.pass('(')?;

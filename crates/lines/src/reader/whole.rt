@@ -1,6 +1,8 @@
 //! A whole line.
 use super::Reader;
 use crate::form::Form;
+use crate::form::NumberItems;
+use crate::form::PairItems;
 use crate::word::Word;
 ghost use Prim.Native.Nat.{_≤_};
 ghost use lib.ListN.{length};
@@ -12,7 +14,7 @@ ghost use Rattle.std.specs.Options.{Cases};
 
 impl<'a> Reader<'a> {
     /// The form that the line is.
-    pub fn form(&mut self) -> Option<Form<'a>>
+    pub(crate) fn form(&mut self) -> Option<Form<'a>>
         requires { ⌜ length (now self .rest .now) ≤ 4096 ⌝ }
         ensures { λ r. ⌜ Cases r (Halts Formed (now (self .entry) .rest .now) (now (self .exit) .rest .now)) (λ g. Says (now (self .entry) .rest .now) g) ⌝ }
     {
@@ -31,6 +33,8 @@ impl<'a> Reader<'a> {
         requires { ⌜ length (now self .rest .now) ≤ 4096 ⌝ }
         ensures { λ r. ⌜ Cases r (Halts (Body word) (now (self .entry) .rest .now) (now (self .exit) .rest .now)) (λ g. Says (headed word (now (self .entry) .rest .now)) g) ⌝ }
     {
+        let pairs = PairItems { text: self.rest };
+        let arcs = NumberItems { text: self.rest };
         match word {
             Word::Casebook => {
                 self.header()?;
@@ -47,31 +51,19 @@ impl<'a> Reader<'a> {
                 let (limit, entries) = self.budget()?;
                 Some(Form::Budget(limit, entries))
             }
-            Word::Seal => {
-                self.finish()?;
-                Some(Form::Seal)
-            }
+            Word::Seal => self.bare(Form::Seal),
             Word::Claim => Some(Form::Claim(self.one()?)),
-            Word::Price => Some(Form::Price(self.pairs()?)),
-            Word::Sample => {
-                self.finish()?;
-                Some(Form::Sample)
-            }
-            Word::Strike => Some(Form::Strike(self.pairs()?)),
-            Word::Trim => {
-                self.finish()?;
-                Some(Form::Trim)
-            }
+            Word::Price => self.pairs(Form::Price(pairs)),
+            Word::Sample => self.bare(Form::Sample),
+            Word::Strike => self.pairs(Form::Strike(pairs)),
+            Word::Trim => self.bare(Form::Trim),
             Word::Split => {
                 let (place, routes) = self.split()?;
                 Some(Form::Split(place, routes))
             }
-            Word::Close => Some(Form::Close(self.pairs()?)),
-            Word::Offer => Some(Form::Offer(self.numbers()?)),
-            Word::Verdict => {
-                self.finish()?;
-                Some(Form::Verdict)
-            }
+            Word::Close => self.pairs(Form::Close(pairs)),
+            Word::Offer => self.numbers(Form::Offer(arcs)),
+            Word::Verdict => self.bare(Form::Verdict),
         }
     }
 }

@@ -28,9 +28,7 @@ impl Reader<'_> {
         self.rest = &self.rest[best..];
         None
     }
-}
 
-impl Reader<'_> {
     /// The text `text`, and the end of the line.
     pub(super) fn literal(&mut self, text: &[u8]) -> Option<()>
         ensures { λ r. ⌜ Ends (Is (now (text .entry))) (now (self .entry) .rest .now) r (now (self .exit) .rest .now) ⌝ }

@@ -1,10 +1,12 @@
 use mathlib.Core.Path.{refl}
 use native.Mathlib.Omega.{arith}
 use Rattle.std.proofs.shelf.Tests.{false≢true}
+use Rattle.terms.specs.Routes as routes
 use Rattle.judging.proofs.Worked.{example-posed}
 use Rattle.judging.proofs.theorems.edges_stand.Needs as need
 
 pub returns : need.returns
+unfolding routes.members
 returns c = record {
   posed = example-posed;
   all = refl;

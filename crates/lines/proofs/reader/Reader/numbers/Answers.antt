@@ -22,7 +22,7 @@ pub returns-in-Break-end : need.returns-in-Break-end
 returns-in-Break-end c = rw (c .from-residual-in-Break-end .ensures) (at-broken number-told some-number [] _ _ (c .loop-self .inv) (c .skip-in-41 .last .self .rest .now) _ (stepped _ _ 41 _ (omega arith) (c .peek .ensures) (c .in-41 .is) (c .skip-in-41 .ensures)) (c .in-Break-end .ensures tt))
 
 pub returns-in-41 : need.returns-in-41
-returns-in-41 c = (at-whole number-told some-number [] _ _ (c .loop-self .inv) (c .skip-in-41 .last .self .rest .now) (stepped _ _ 41 _ (omega arith) (c .peek .ensures) (c .in-41 .is) (c .skip-in-41 .ensures)) (c .in-Continue-end .ensures tt), refl)
+returns-in-41 c = (refl, at-whole number-told some-number [] _ _ (c .loop-self .inv) (c .skip-in-41 .last .self .rest .now) (stepped _ _ 41 _ (omega arith) (c .peek .ensures) (c .in-41 .is) (c .skip-in-41 .ensures)) (c .in-Continue-end .ensures tt))
 
 pub loop-self-holds : need.loop-self-holds
 loop-self-holds c = goes-none _ _
