@@ -16,6 +16,13 @@ import sys
 HERE = os.path.dirname(os.path.realpath(__file__))
 # what a name consists of; the dot separates a module or a member from its name
 WORD = re.compile(r"[^\s(){}\[\],;.`\"λ∷∙≡→×:|]+")
+GHOST = re.compile(r"(?:new: |old: )?\s*(?:ghost|requires|ensures)\b")
+
+
+def line_of(m):
+    """The line in which a match begins."""
+    text = m.string
+    return text[text.rfind("\n", 0, m.start()) + 1 : m.end()]
 
 
 def table():
@@ -49,8 +56,8 @@ def main(root):
 
         def turn(m):
             word = m.group(0)
-            # in source text a dash is no part of a name
-            if code and "-" in word:
+            # in source text a dash is no part of a name, but in its ghost lines and clauses
+            if code and "-" in word and not GHOST.match(line_of(m)):
                 return word
             return names.get(word, word)
 

@@ -9,7 +9,7 @@ use Rattle.plans.proofs.Steps.{next_there}
 use Rattle.rules.specs.Rules.{Rule, no_rule, Within, InRange, on_grid}
 use Rattle.rules.specs.Lawful.{Problem}
 use Rattle.amounts.specs.Multipliers.{Fair}
-use Rattle.amounts.specs.Amounts.{amount, worth, owed, arc_price, price_sum}
+use Rattle.amounts.specs.Amounts.{worth, owed, arc_price, price_sum}
 use Rattle.amounts.specs.Sums.{sum_to, worth_of, owed_of}
 use Rattle.amounts.specs.Laws.{AmountsSmall}
 use Rattle.amounts.proofs.Exchange.{priced_by_sum}

@@ -1,4 +1,6 @@
 //! Judges a dossier: reads lines from standard input and writes one reply for each to standard output.
+#![tactic(auto)]
+
 ghost use Rattle.std.specs.Prelude.{◌≡◌, ◌≤◌, length};
 
 use casebooks::casebook::Casebook;

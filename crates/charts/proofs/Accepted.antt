@@ -1,5 +1,5 @@
 -- An arc that no row refuses is in range. Assumes nothing.
-use Rattle.std.proofs.Common.{◌≡◌, ℕ, ◌<◌, ◌≤◌, Bool, true, false, not, ◌&&◌, ◌||◌, eqb, ltb, leb, length, None, sym, refl, ◌∙◌, ⊎_elim, arith}
+use Rattle.std.proofs.Common.{◌≡◌, ℕ, ◌<◌, ◌≤◌, Bool, true, false, not, ◌&&◌, ◌||◌, eqb, ltb, leb, length, None, refl, arith}
 use Rattle.std.proofs.lemmas.Bool.{and_parts, or_parts, not-false, leb-true, ltb-false, le-ltb, lt-leb, eqb-true, eq-eqb, both_ways}
 use Rattle.terms.specs.declared.arc.NewArc.{NewArc}
 use Rattle.plans.specs.Arcs.{OnPlace, OnNodes, AtRoot, AtEnd}

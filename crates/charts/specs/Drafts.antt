@@ -1,6 +1,6 @@
 -- What a draft and a sealed chart stand for, and the calls on a draft: when each is refused, what it answers and
 -- what it leaves. Assumes nothing.
-use Rattle.std.specs.Prelude.{ℕ, Bool, cond, not, ◌&&◌, ◌||◌, List, [], ◌∷◌, ◌++◌, length, take, Some, None, Ok, Err, Option, ◌==◌, nat_le, nat_lt}
+use Rattle.std.specs.Prelude.{ℕ, Bool, cond, not, ◌&&◌, ◌||◌, List, [], ◌∷◌, ◌++◌, length, take, Some, None, Ok, Option, ◌==◌, nat_le, nat_lt}
 use Rattle.terms.specs.declared.arc.Arc.{Arc}
 use Rattle.terms.specs.declared.arc.NewArc.{NewArc}
 use Rattle.terms.specs.declared.refusal.Refusal.{Refusal}

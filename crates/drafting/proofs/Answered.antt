@@ -5,7 +5,7 @@ use Rattle.terms.specs.declared.refusal.Refusal.TheVariants.{Grammar, NotHere}
 use Rattle.terms.specs.Refusals.{Outcome}
 use Rattle.lines.specs.declared.form.Form.{Form as Read}
 use Rattle.lines.specs.Forms.{Form, Casebook, Places, Arc, Once, Order, Budget, Seal, Claim, Price, Sample, Strike, Trim, Split, Close, Offer, Verdict, text}
-use Rattle.lines.specs.Impossible.{First_impossible}
+use Rattle.lines.specs.Impossible.{FirstImpossible}
 use Rattle.lines.specs.Readings.{Means, Says}
 use Rattle.drafting.specs.declared.drafting.Step.TheVariants.{Counts}
 use Rattle.drafting.specs.Stages.{Drafted, on_unbegun, not_here}
@@ -26,7 +26,7 @@ by_form l g read says answer after = record {
 
 -- a line that is read as no form is refused at its first impossible byte
 pub by_byte : {S A : Type 0} {on : Form → Outcome S A} {s : S} (l : List ℕ) (k : ℕ)
-    → (4096 < length l → ◌≡◌ {A = Result Read ℕ} (Err k) (Err 4097)) → (length l ≤ 4096 → First_impossible l k) → Replies {A = A} on s l (Err (Grammar k)) s
+    → (4096 < length l → ◌≡◌ {A = Result Read ℕ} (Err k) (Err 4097)) → (length l ≤ 4096 → FirstImpossible l k) → Replies {A = A} on s l (Err (Grammar k)) s
 by_byte l k past first = record {
   short = λ h. inr (record { byte = k; first = first h; answer = refl; after = refl });
   long = λ h. let e = past h in let f : k ≡ 4097 = cc in (ap (λ (n : ℕ). Err (Grammar n)) f, refl);

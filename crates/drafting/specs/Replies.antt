@@ -4,7 +4,7 @@ use Rattle.terms.specs.declared.refusal.Refusal.{Refusal}
 use Rattle.terms.specs.declared.refusal.Refusal.TheVariants.{Grammar}
 use Rattle.terms.specs.Refusals.{Outcome}
 use Rattle.lines.specs.Forms.{Form, Proper, text}
-use Rattle.lines.specs.Impossible.{First_impossible}
+use Rattle.lines.specs.Impossible.{FirstImpossible}
 
 -- the line l is a form, and r and left are what the form answers and leaves
 pub record ByForm {S A : Type 0} (on : Form → Outcome S A) (l : List ℕ) (r : Result A Refusal) (left : S) : Type 0 where
@@ -17,7 +17,7 @@ pub record ByForm {S A : Type 0} (on : Form → Outcome S A) (l : List ℕ) (r :
 -- the line l is no form: it is refused with its first impossible byte, and all is left as it was
 pub record ByByte {S A : Type 0} (s : S) (l : List ℕ) (r : Result A Refusal) (left : S) : Type 0 where
   pub byte : ℕ
-  pub first : First_impossible l byte
+  pub first : FirstImpossible l byte
   pub answer : r ≡ Err (Grammar byte)
   pub after : left ≡ s
 

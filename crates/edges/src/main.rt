@@ -1,5 +1,7 @@
 //! Judges a claim on a small chart, and then tries the nine calls of a casebook at their edges. Each reply is printed and
 //! compared with the one expected; a line FAILED follows where it is another.
+#![tactic(auto)]
+
 mod reply;
 
 use crate::reply::Reply;

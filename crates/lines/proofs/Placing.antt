@@ -4,7 +4,7 @@ use Rattle.std.proofs.lemmas.List.{take-take, take_all}
 use Rattle.std.proofs.lemmas.Bool.{cases_lt}
 use Rattle.lines.specs.Forms.{Formed}
 use Rattle.lines.specs.Texts.{Stops, Halts}
-use Rattle.lines.specs.Impossible.{Begins, First_impossible, Least_impossible, Too_short}
+use Rattle.lines.specs.Impossible.{Begins, FirstImpossible, LeastImpossible, TooShort}
 
 -- a front of what begins a form begins one
 pub begins_less : (l : List ℕ) (j k : ℕ) → j ≤ k → Begins (take k l) → Begins (take j l)
@@ -13,19 +13,19 @@ begins_less l j k le (t, m) =
     (drop j (take k l) ++ t, subst Formed (ap (λ x. x ++ t) cut ∙ append_assoc (take j l) (drop j (take k l)) t) m)
 
 -- k bytes can begin a form, and what comes next cannot follow
-stopped : (l : List ℕ) (k : ℕ) → Stops Formed l k → First_impossible l (k + 1)
+stopped : (l : List ℕ) (k : ℕ) → Stops Formed l k → FirstImpossible l (k + 1)
 stopped l k s = ⊎_elim (λ lt. inl (inside lt)) (λ le. inr (all le)) (cases_lt k (length l))
   where
-    inside : k < length l → Least_impossible l (k + 1)
+    inside : k < length l → LeastImpossible l (k + 1)
     inside lt = record { within = omega arith; impossible = λ b. s.here lt b.0 b.1; least = λ j h. begins_less l j k (omega arith) s.before }
 
-    all : length l ≤ k → Too_short l (k + 1)
+    all : length l ≤ k → TooShort l (k + 1)
     all le = record { begins = subst Begins (take_all k l le) s.before; none = s.whole; past = omega (arith, s.within) }
 
 -- the place of the first impossible byte, from what is left
-pub placed : (l l' rest : List ℕ) → l' ≡ l → Halts Formed l' rest → (length rest ≤ length l) × First_impossible l (length l - length rest + 1)
+pub placed : (l l' rest : List ℕ) → l' ≡ l → Halts Formed l' rest → (length rest ≤ length l) × FirstImpossible l (length l - length rest + 1)
 placed l l' rest same at =
     let h : Halts Formed l rest = subst (λ x. Halts Formed x rest) same at in
     let left : length rest ≡ length l - h.passed = ap length h.left ∙ length-drop h.passed l in
     let k : h.passed ≡ length l - length rest = omega (arith, h.stops.within) in
-    (omega arith, subst (λ i. First_impossible l (i + 1)) k (stopped l h.passed h.stops))
+    (omega arith, subst (λ i. FirstImpossible l (i + 1)) k (stopped l h.passed h.stops))

@@ -7,7 +7,7 @@ use Rattle.lines.specs.declared.word.Word.TheVariants as word
 use Rattle.lines.specs.Forms.{Form, Casebook, Places, Arc, Once, Order, Budget, Seal, Claim, Price, Sample, Strike, Trim, Split, Close, Offer, Verdict, Formed, text, Proper, numbers}
 use Rattle.lines.specs.Texts.{ahead, Item, Many, Listed}
 use Rattle.lines.specs.Words.{headed, Body, Ending}
-use Rattle.lines.specs.Impossible.{Begins, First_impossible, One_reading}
+use Rattle.lines.specs.Impossible.{Begins, FirstImpossible, OneReading}
 use Rattle.lines.proofs.Numerals.{leading}
 use Rattle.lines.proofs.Halting.{Told, piece_once}
 use Rattle.lines.proofs.Pieces.{number_told, item_told, signed_told, pair_told, triple_told}
@@ -125,7 +125,7 @@ begins_front : (l : List ℕ) (k : ℕ) → Formed l → Begins (take k l)
 begins_front l k f = (drop k l, subst Formed (sym (take-append-drop k l)) f)
 
 -- no form has an impossible byte
-never_both : (l : List ℕ) (k : ℕ) → First_impossible l k → Formed l → ⊥
+never_both : (l : List ℕ) (k : ℕ) → FirstImpossible l k → Formed l → ⊥
 never_both l k (inl s) f = s.impossible (begins_front l k f)
 never_both l k (inr s) f = s.none f
 
@@ -134,7 +134,7 @@ begins_all : (l : List ℕ) (k : ℕ) → Begins l → Begins (take k l)
 begins_all l k (t, m) = (drop k l ++ t, subst Formed (ap (λ x. x ++ t) (sym (take-append-drop k l)) ∙ append_assoc (take k l) (drop k l) t) m)
 
 -- a line has one first impossible byte
-one_byte : (l : List ℕ) (j k : ℕ) → First_impossible l j → First_impossible l k → j ≡ k
+one_byte : (l : List ℕ) (j k : ℕ) → FirstImpossible l j → FirstImpossible l k → j ≡ k
 one_byte l j k (inl a) (inl b) = go (cases_lt j k) (cases_lt k j)
   where
     go : (j < k) ⊎ (k ≤ j) → (k < j) ⊎ (j ≤ k) → j ≡ k
@@ -146,5 +146,5 @@ one_byte l j k (inr a) (inl b) = absurd (b.impossible (begins_all l k a.begins))
 one_byte l j k (inr a) (inr b) = omega (arith, a.past, b.past)
 
 -- a line is read in one way
-pub one_reading : One_reading
+pub one_reading : OneReading
 one_reading = record { form = one_form; either = never_both; byte = one_byte }

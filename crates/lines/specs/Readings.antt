@@ -3,7 +3,7 @@ use Rattle.std.specs.Prelude.{◌≡◌, ℕ, List, ℤ, Ok, Err, Result}
 use Rattle.lines.specs.declared.form.Form.{Form as Read}
 use Rattle.lines.specs.declared.form.Form.TheVariants as read
 use Rattle.lines.specs.Forms.{Form, Casebook, Places, Arc, Once, Order, Budget, Seal, Claim, Price, Sample, Strike, Trim, Split, Close, Offer, Verdict, Proper, text}
-use Rattle.lines.specs.Impossible.{First_impossible}
+use Rattle.lines.specs.Impossible.{FirstImpossible}
 use Rattle.lines.specs.Cursors.{HoldsNumbers, HoldsPairs, HoldsTriples}
 
 -- g, as the reader answers it, is the form f: a cursor stands for the items that it holds
@@ -35,4 +35,4 @@ pub record Says (l : List ℕ) (g : Read) : Type 0 where
 -- r is what is to be read of the line l: the form that it is, or the place of its first impossible byte
 abbrev pub Reads : List ℕ → Result Read ℕ → Type 0
 Reads l (Ok g) = Says l g
-Reads l (Err k) = First_impossible l k
+Reads l (Err k) = FirstImpossible l k

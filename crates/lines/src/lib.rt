@@ -1,10 +1,12 @@
 //! The forms of a dossier's lines: what a line says, or the first byte with which it can begin no form.
+#![tactic(auto)]
+
 pub mod form;
 mod reader;
 mod word;
 
 ghost use Rattle.std.specs.Prelude.{◌≡◌, ◌<◌, ◌≤◌, length, Err, codes, Decides, MatchBool};
-ghost use Rattle.lines.specs.Impossible.{One-reading};
+ghost use Rattle.lines.specs.Impossible.{OneReading};
 ghost use Rattle.lines.specs.Readings.{Reads};
 
 use form::Form;
@@ -42,7 +44,7 @@ pub fn is_header(line: &[u8]) -> bool
 
 /// A line is the text of at most one form, and has one answer: a form or one first impossible byte.
 pub fn one_reading() -> u8
-    ensures { One-reading }
+    ensures { OneReading }
 {
     0
 }

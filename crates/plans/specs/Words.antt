@@ -1,6 +1,6 @@
 -- What the definitions of the standing plans, the first of them and the first with the least amount mean, in terms of
 -- plans. Assumes nothing.
-use Rattle.std.specs.Prelude.{◌≡◌, ℕ, ◌+◌, Bool, true, false, ◌⊎◌, List, ℤ, ◌≤ℤ◌, Some, None, Option}
+use Rattle.std.specs.Prelude.{◌≡◌, ℕ, ◌+◌, true, ◌⊎◌, List, ℤ, ◌≤ℤ◌, Some, None}
 use Rattle.terms.specs.declared.arc.Arc.{Arc}
 use Rattle.plans.specs.Plans.{Plan, In, Before}
 use Rattle.plans.specs.Cases.{Case, stands, standing, on, on_some, kept, gone, size}

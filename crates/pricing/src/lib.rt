@@ -1,4 +1,6 @@
 //! The prices of arcs under a bank and multipliers, and what they tell of the standing plans.
+#![tactic(auto)]
+
 pub mod fair;
 mod marks;
 pub mod price;

@@ -1,5 +1,7 @@
 //! Drafts two charts, seals them, and reports the least minutes and the first plan that takes them; then prices the small
 //! one under rules.
+#![tactic(auto)]
+
 use casebooks::casebook::Casebook;
 use charts::chart::{Chart, Draft};
 use rules::bank::Bank;

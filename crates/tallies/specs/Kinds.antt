@@ -1,5 +1,5 @@
 -- What the tally of the smaller amount does with amounts. Assumes nothing.
-use Rattle.std.specs.Prelude.{ℕ, Bool, true, false, cond, ℤ, pos, ◌+ℤ◌, Some, None, Option, int_lt, unsigned_abs}
+use Rattle.std.specs.Prelude.{ℕ, cond, ℤ, ◌+ℤ◌, Some, None, Option, int_lt, unsigned_abs}
 
 -- the smaller of two amounts, of which either may be missing
 abbrev pub least_join : Option ℤ → Option ℤ → Option ℤ

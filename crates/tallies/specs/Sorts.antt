@@ -1,9 +1,10 @@
 -- The laws of the kinds of tally. Assumes nothing.
-use Rattle.std.specs.Prelude.{◌≡◌, ℕ, Bool, true, false, cond, ◌||◌, ◌⊎◌, ℤ, pos, ◌+ℤ◌, Some, None, Option, int_lt, refl}
+use Rattle.std.specs.Prelude.{◌≡◌, ℕ, suc, ◌-◌, Bool, true, false, cond, ◌||◌, ◌⊎◌, ℤ, pos, ◌+ℤ◌, Some, None, Option, int_lt, refl}
 use Rattle.std.proofs.Common.{ap, inl, inr, arith, rules}
 use Rattle.std.proofs.lemmas.Int.{ints}
 use Rattle.tallies.specs.Kinds.{least_join, least_extend, least_size}
 use Rattle.tallies.specs.Laws.{TallyLaws}
+use Rattle.tallies.specs.Headings.{HeadingLaws}
 
 pub least_lawful : TallyLaws None (Some (pos 0)) least_join least_extend least_size
 least_lawful = record {
@@ -51,3 +52,20 @@ least-apart None None p e = refl
 least-apart None (Some y) p e = let z : ◌≡◌ {A = ℕ} 0 1 = cc in absurd (omega arith)
 least-apart (Some x) None p e = let z : ◌≡◌ {A = ℕ} 0 1 = cc in absurd (omega arith)
 least-apart (Some x) (Some y) p e = let s : x +ℤ p ≡ y +ℤ p = cc in ap Some (omega (arith, ints))
+
+-- the two directions
+pub onward_lawful : HeadingLaws (λ x. x.start) (λ x. x.end) (λ (n k : ℕ). suc k) (λ (n k : ℕ). k)
+onward_lawful = record {
+  near_node = search rules;
+  far_node = search rules;
+  row_within = search rules;
+  row_apart = search rules;
+}
+
+pub backward_lawful : HeadingLaws (λ x. x.end) (λ x. x.start) (λ (n k : ℕ). n - k) (λ (n k : ℕ). n - k)
+backward_lawful = record {
+  near_node = search rules;
+  far_node = search rules;
+  row_within = search rules;
+  row_apart = search rules;
+}

@@ -1,8 +1,7 @@
 //! The kinds of tally: least, the smaller amount, and reach, whether there is a plan.
 ghost use Rattle.std.specs.Prelude.{◌≡◌, ℕ, true, false, ◌||◌, ℤ, pos, Some, None};
 ghost use Rattle.tallies.specs.Kinds.{least_join, least_extend, least_size};
-ghost use Rattle.std.proofs.Common.{rules};
-ghost use Rattle.tallies.specs.Sorts.{least-lawful};
+ghost use Rattle.tallies.specs.Sorts.{least_lawful, reach_lawful};
 
 use super::tally::{Choosing, Tally};
 
@@ -22,7 +21,7 @@ impl Tally for Reach {
 
     ghost size = { λ _. 0 };
 
-    ghost lawful = { Prim.search rules };
+    ghost lawful = { reach_lawful };
 
     fn no_plan() -> bool {
         false
@@ -63,7 +62,7 @@ impl Tally for Least {
 
     ghost size = { least_size };
 
-    ghost lawful = { least-lawful };
+    ghost lawful = { least_lawful };
 
     fn no_plan() -> Option<i64> {
         None

@@ -41,8 +41,8 @@ pub trait Tally {
 pub trait Choosing: Tally {
     /// Whether the joining of two amounts is the first; if not, it is the second.
     fn first(a: Self::Amount, b: Self::Amount) -> bool
-        ensures chosen { result ≡ true → Self.Tally.joins a b ≡ a }
-        ensures other { result ≡ false → Self.Tally.joins a b ≡ b }
-        ensures told { Self.Tally.joins a b ≡ a → result ≡ true }
-        ensures chooses { (x y : Self.Amount) → (Self.Tally.joins x y ≡ x) ⊎ (Self.Tally.joins x y ≡ y) };
+        ensures chosen { result ≡ true → Self.joins a b ≡ a }
+        ensures other { result ≡ false → Self.joins a b ≡ b }
+        ensures told { Self.joins a b ≡ a → result ≡ true }
+        ensures chooses { (x y : Self.Amount) → (Self.joins x y ≡ x) ⊎ (Self.joins x y ≡ y) };
 }

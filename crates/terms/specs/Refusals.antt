@@ -1,5 +1,5 @@
 -- The refusals: the number and the value beside each, and how the earliest row that holds is found. Assumes nothing.
-use Rattle.std.specs.Prelude.{ℕ, suc, Bool, true, false, List, [], ◌∷◌, ℤ, pos, Some, None, Ok, Err, Option, Result}
+use Rattle.std.specs.Prelude.{ℕ, Bool, true, false, List, [], ◌∷◌, ℤ, pos, Some, None, Err, Option, Result}
 use Rattle.terms.specs.declared.refusal.Refusal.{Refusal}
 use Rattle.terms.specs.declared.refusal.Refusal.TheVariants.{Grammar, NotHere, PlacesRange, PlacesLate, PlaceRange, NodeRange, RouteRange, MinutesRange, ArcsFull, ClaimRange, TooManyRules, MultiplierCount, MultiplierRange, NoCase, SplitPlace, OneSided, PileFull, ShortBuffer, OfferLength, NotConnected, BreaksRule, NotCheaper, NotClosed}
 

@@ -1,29 +1,29 @@
 -- The plan that a trace follows is the first that attains the amount. Assumes nothing.
-use Rattle.std.proofs.Common.{◌≡◌, ℕ, zero, suc, ◌+◌, ◌-◌, ◌*◌, ◌<◌, ◌≤◌, Bool, true, false, cond, ◌&&◌, ◌||◌, ◌⊎◌, List, [], ◌∷◌, map, length, ℤ, pos, ◌+ℤ◌, nat_abs, ◌≤ℤ◌, Some, None, Option, sym, refl, ap, ◌∙◌, subst, inl, inr, ⊎_elim, arith, rules}
+use Rattle.std.proofs.Common.{◌≡◌, ℕ, suc, ◌+◌, ◌-◌, ◌<◌, ◌≤◌, Bool, true, false, cond, ◌||◌, ◌⊎◌, List, [], ◌∷◌, map, length, ℤ, pos, ◌+ℤ◌, nat_abs, ◌≤ℤ◌, Some, None, Option, sym, refl, ap, ◌∙◌, subst, inl, inr, ⊎_elim, arith}
 use lib.Signed.{lt_z}
 use Rattle.std.proofs.lemmas.Int.{ints}
-use Rattle.std.proofs.lemmas.Bool.{and_parts, and_from, cases_order, cases_Bool, true≢false, false≢true}
+use Rattle.std.proofs.lemmas.Bool.{and_parts, and_from, cases_order}
 use Rattle.std.specs.List.{AllByRecursion as All}
 use Rattle.terms.specs.declared.arc.Arc.{Arc}
 use Rattle.plans.specs.Arcs.{arc_at, Sealed}
-use Rattle.plans.specs.Plans.{next, Path, Plan, In, Before, backs, paths, plans, Node}
+use Rattle.plans.specs.Plans.{next, Path, In, Before, backs, paths, Node}
 use Rattle.plans.specs.Cases.{Case, stands, those, standing}
 use Rattle.plans.specs.Firsts.{foremost, lesser, cheapest, amount_in, is_there}
-use Rattle.plans.specs.Words.{Stands, First, FirstLeast}
-use Rattle.plans.proofs.Whole.{lt_z_true, lt_z_false}
+use Rattle.plans.specs.Words.{Stands}
+use Rattle.plans.proofs.Whole.{lt_z_true}
 use Rattle.plans.proofs.Members.{those_in}
 use Rattle.plans.proofs.Ends.{path_ends, back_in}
 use Rattle.plans.proofs.Standing.{standing_means}
-use Rattle.tallies.specs.Laws.{wide, slight, steep}
+use Rattle.tallies.specs.Laws.{wide, steep}
 use Rattle.tallies.specs.Kinds.{least_join, least_extend}
 use Rattle.ways.specs.Amounts.{along_back, joining, backward_amount}
 use Rattle.ways.specs.Sums.{price_sum, leasts, reaches}
-use Rattle.ways.specs.Traces.{Attains, Smallest, Traced}
+use Rattle.ways.specs.Traces.{Attains, Traced}
 use Rattle.tallies.specs.declared.tally.Tally.{Ghosts}
 use Rattle.tallies.specs.Sorts.{least_lawful, reach_lawful, least_chooses, reach_chooses, least-apart}
 use Rattle.ways.proofs.Sums.{Lawful, bound}
 use Rattle.ways.proofs.Picks.{Chooses, each_taken}
-use Rattle.ways.proofs.Levels.{root_node, end_node, after, amount_narrow, taken, Reached, traced_reaches}
+use Rattle.ways.proofs.Levels.{root_node, end_node, amount_narrow, taken, traced_reaches}
 
 -- what holds of each image holds of the image of a member
 all_at : {A : Type 0} (P : A → Type 0) (f : List ℕ → A) (q : List ℕ) (ps : List (List ℕ)) → All P (map f ps) → In q ps → P (f q)

@@ -1,22 +1,21 @@
 -- The amounts of a backward sweep, level by level. Assumes nothing.
-use Rattle.std.proofs.Common.{◌≡◌, ℕ, zero, suc, ◌+◌, ◌-◌, ◌*◌, ◌<◌, ◌≤◌, Bool, true, false, cond, ◌&&◌, eqb, ltb, ◌⊎◌, List, [], ◌∷◌, ◌++◌, map, length, get_or, take, drop, set, ℤ, pos, nat_abs, Some, None, sym, refl, ap, ◌∙◌, subst, inl, inr, ⊎_elim, arith}
+use Rattle.std.proofs.Common.{◌≡◌, ℕ, zero, suc, ◌+◌, ◌-◌, ◌<◌, ◌≤◌, Bool, true, false, ◌&&◌, eqb, ltb, List, [], ◌∷◌, ◌++◌, length, get_or, take, set, ℤ, nat_abs, sym, refl, ap, ◌∙◌, subst, ⊎_elim, arith}
 use Rattle.std.proofs.lemmas.List.{get_or_read, take_more_set, append_assoc, append-nil}
-use Rattle.std.proofs.lemmas.Bool.{lt-ltb, eqb-true, and_parts}
+use Rattle.std.proofs.lemmas.Bool.{lt-ltb, and_parts}
 use Rattle.terms.specs.declared.arc.Arc.{Arc}
 use Rattle.plans.specs.Arcs.{arc_at, Sealed}
-use Rattle.plans.specs.Plans.{next, Path, Plan, Node}
+use Rattle.plans.specs.Plans.{next, Path, Node}
 use Rattle.plans.specs.Cases.{Case, stands}
-use Rattle.plans.specs.Words.{Stands}
 use Rattle.plans.proofs.Steps.{next_there, next_place}
 use Rattle.tallies.specs.Laws.{wide, steep}
-use Rattle.ways.specs.Amounts.{along_back, joining, backward_amount, entry, Backward}
-use Rattle.ways.specs.Ways.{takes, ways, way_amount}
+use Rattle.ways.specs.Amounts.{along_back, backward_amount, entry, Backward}
+use Rattle.ways.specs.Ways.{takes, way_amount}
 use Rattle.ways.specs.Directions.{backward}
-use Rattle.ways.specs.Traces.{Attains, Smallest, Picked, Traced, Completes, Attaining}
+use Rattle.ways.specs.Traces.{Attains, Smallest, Traced, Completes, Attaining}
 use Rattle.tallies.specs.declared.tally.Tally.{Ghosts}
-use Rattle.ways.proofs.Sums.{Lawful, so_far, through, way-narrow, neutral_right}
+use Rattle.ways.proofs.Sums.{Lawful, through, way-narrow, neutral_right}
 use Rattle.ways.proofs.Turns.{backward-way}
-use Rattle.ways.proofs.Picks.{Chooses, brings, absorbed, some-part}
+use Rattle.ways.proofs.Picks.{Chooses, absorbed, some-part}
 
 -- the root is a node, and the node at which an arc from a node ends is one
 pub root_node : (n : ℕ) (arcs : List Arc) → Sealed n arcs → Node n 1 0

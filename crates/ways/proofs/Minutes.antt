@@ -1,11 +1,11 @@
 -- Where each arc's price is its minutes and all arcs stand, the cheapest standing plan is the cheapest plan. Assumes nothing.
-use Rattle.std.proofs.Common.{◌≡◌, ℕ, suc, ◌+◌, ◌<◌, ◌≤◌, Bool, true, false, cond, ◌⊎◌, List, [], ◌∷◌, length, get_or, ℤ, pos, ◌+ℤ◌, nat_abs, Some, None, Option, sym, refl, ap, ◌∙◌, subst, inl, inr, ⊎_elim, arith}
+use Rattle.std.proofs.Common.{◌≡◌, ℕ, suc, ◌<◌, ◌≤◌, Bool, true, false, cond, ◌⊎◌, List, [], ◌∷◌, length, get_or, ℤ, pos, nat_abs, Some, None, Option, sym, refl, ap, ◌∙◌, subst, inl, inr, ⊎_elim, arith}
 use lib.Signed.{lt_z}
 use Rattle.std.proofs.lemmas.Bool.{cases_lt}
 use Rattle.terms.specs.declared.arc.Arc.{Arc}
 use Rattle.plans.specs.Arcs.{arc_at, Sealed}
 use Rattle.plans.specs.Plans.{Path, cost, plans, In}
-use Rattle.plans.specs.Cases.{Case, stands, those, standing}
+use Rattle.plans.specs.Cases.{Case, stands, standing}
 use Rattle.plans.specs.Firsts.{lesser, cheapest, amount_in}
 use Rattle.plans.proofs.Members.{those_all}
 use Rattle.plans.proofs.Listing.{in_plan}

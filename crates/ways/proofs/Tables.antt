@@ -1,18 +1,18 @@
 -- The table of a sweep while it is filled. Assumes nothing.
-use Rattle.std.proofs.Common.{◌≡◌, ℕ, zero, suc, ◌+◌, ◌*◌, ◌<◌, ◌≤◌, Bool, true, false, cond, ◌&&◌, eqb, ◌≢◌, ◌⊎◌, List, [], ◌∷◌, map, length, get_or, set, ℤ, pos, negsuc, nat_abs, sym, refl, ap, ◌∙◌, subst, ⊎_elim, add-one, arith, get_or-set_other, get_or-set_same, w64, SFits, to_z, of_z}
+use Rattle.std.proofs.Common.{◌≡◌, ℕ, zero, suc, ◌+◌, ◌<◌, ◌≤◌, true, false, cond, ◌≢◌, List, [], ◌∷◌, map, length, get_or, set, ℤ, pos, negsuc, nat_abs, sym, ap, ◌∙◌, subst, ⊎_elim, add-one, arith, get_or-set_other, get_or-set_same, w64, SFits, to_z, of_z}
 use Rattle.std.proofs.lemmas.List.{get_or_past}
 use Rattle.std.proofs.lemmas.Int.{to_z-of_z}
-use Rattle.std.proofs.lemmas.Bool.{cases_eq, cases_lt, eq-eqb, ne_eqb, and_from, and_left, and_right}
+use Rattle.std.proofs.lemmas.Bool.{cases_eq, cases_lt, ne_eqb, and_left, and_right}
 use Rattle.terms.specs.declared.arc.Arc.{Arc}
 use Rattle.plans.specs.Arcs.{arc_at, OnNodes}
 use Rattle.plans.specs.Cases.{Case}
-use Rattle.tallies.specs.Laws.{TallyLaws, wide, steep}
+use Rattle.tallies.specs.Laws.{wide, steep}
 use Rattle.tallies.specs.Headings.{HeadingLaws}
 use Rattle.ways.specs.Amounts.{along_back, joining}
-use Rattle.ways.specs.Ways.{takes, ways, way_amount, relaxed, spot, Filled}
+use Rattle.ways.specs.Ways.{takes, way_amount, relaxed, spot, Filled}
 use Rattle.tallies.specs.declared.tally.Tally.{Ghosts}
 use Rattle.tallies.specs.declared.heading.Heading.{Ghosts as Directed}
-use Rattle.ways.proofs.Sums.{Lawful, so_far, through, one-taken, one_left, neutral_right, way-narrow}
+use Rattle.ways.proofs.Sums.{Lawful, so_far, one-taken, one_left, neutral_right, way-narrow}
 
 -- a price that a call is passed
 pub price_fits : (z : ℤ) → nat_abs z ≤ steep → SFits w64 z

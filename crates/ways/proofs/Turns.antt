@@ -1,15 +1,15 @@
 -- The ways of a sweep are the standing partial plans: from the root, read backwards, and to the end. Assumes nothing.
-use Rattle.std.proofs.Common.{◌≡◌, ℕ, zero, suc, ◌+◌, ◌-◌, ◌*◌, ◌<◌, ◌≤◌, Bool, true, false, cond, ◌&&◌, eqb, ltb, List, [], ◌∷◌, ◌++◌, map, reverse, length, get_or, ℤ, sym, refl, ap, ◌∙◌, subst, arith}
-use Rattle.std.proofs.lemmas.List.{map-append, reverse-append, append-nil}
+use Rattle.std.proofs.Common.{◌≡◌, ℕ, zero, suc, ◌+◌, ◌-◌, ◌*◌, ◌<◌, ◌≤◌, Bool, true, false, cond, ◌&&◌, eqb, ltb, List, [], ◌∷◌, ◌++◌, map, reverse, length, get_or, ℤ, sym, refl, ap, ◌∙◌, arith}
+use Rattle.std.proofs.lemmas.List.{map-append, reverse-append}
 use Rattle.std.proofs.lemmas.List.Sums.{fold_push}
-use Rattle.std.proofs.lemmas.Bool.{lt-ltb, eq-eqb, eqb-true, and_parts, and_from, and_right, cases_Bool}
+use Rattle.std.proofs.lemmas.Bool.{lt-ltb, eq-eqb, eqb-true, and_parts}
 use Rattle.terms.specs.declared.arc.Arc.{Arc}
 use Rattle.plans.specs.Arcs.{arc_at, Sealed}
-use Rattle.plans.specs.Plans.{next, begun, paths, enters, push, ended, reaching, fronts, backs, Node}
+use Rattle.plans.specs.Plans.{next, begun, paths, enters, push, ended, reaching, Node}
 use Rattle.plans.specs.Cases.{Case, stands, those}
 use Rattle.plans.proofs.Members.{those-append}
-use Rattle.ways.specs.Amounts.{along, along_back, joining, forward_amount, backward_amount, entry, Forward, Backward}
-use Rattle.ways.specs.Ways.{takes, gathered, ways, way_amount, spot, Filled}
+use Rattle.ways.specs.Amounts.{along, along_back, joining, forward_amount, backward_amount, Forward, Backward}
+use Rattle.ways.specs.Ways.{takes, gathered, ways, way_amount, Filled}
 use Rattle.ways.specs.Directions.{onward, backward}
 use Rattle.tallies.specs.declared.tally.Tally.{Ghosts}
 

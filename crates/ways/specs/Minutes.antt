@@ -1,5 +1,5 @@
 -- The call that answers the least minutes of a chart. Assumes nothing.
-use Rattle.std.specs.Prelude.{ℕ, List, [], ◌∷◌, length, ℤ, pos, Some, None, Ok, Option, nat_lt}
+use Rattle.std.specs.Prelude.{ℕ, List, length, pos, Some, None, Ok, Option, nat_lt}
 use Rattle.terms.specs.declared.arc.Arc.{Arc}
 use Rattle.terms.specs.declared.refusal.Refusal.TheVariants.{ShortBuffer}
 use Rattle.terms.specs.Refusals.{when, Outcome, decided}

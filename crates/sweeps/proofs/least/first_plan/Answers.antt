@@ -13,8 +13,8 @@ pub backward-requires : goal.backward-requires
 backward-requires c = record {
   fit = record {
     marks = c.requires.marks;
-    priced = omega (arith, c.places.ensures.sealed.count, c.no-prices-prices.ensures.long);
-    small = λ a. flat _ (c.no-prices-prices.ensures.each a);
+    priced = omega (arith, c.places.ensures.sealed.count, c.no_prices-prices.ensures.long);
+    small = λ a. flat _ (c.no_prices-prices.ensures.each a);
   };
   long = refl;
 }
@@ -23,8 +23,8 @@ pub trace-requires : goal.trace-requires
 trace-requires c = record {
   fit = record {
     marks = c.requires.marks;
-    priced = omega (arith, c.places.ensures.sealed.count, c.no-prices-prices.ensures.long);
-    small = λ a. flat _ (c.no-prices-prices.ensures.each a);
+    priced = omega (arith, c.places.ensures.sealed.count, c.no_prices-prices.ensures.long);
+    small = λ a. flat _ (c.no_prices-prices.ensures.each a);
   };
   filled = c.backward.ensures;
   long = c.backward.auto.out;
@@ -36,9 +36,9 @@ returns c =
     let n = places_of c.args.chart.now in
     let arcs = arcs_of c.args.chart.now in
     let s = marked c.args.standing.now in
-    let price = price_at c.no-prices-prices.result in
+    let price = price_at c.no_prices-prices.result in
     let sealed = c.places.ensures.sealed in
-    let small : (a : ℕ) → nat_abs (price a) ≤ steep = λ a. flat _ (c.no-prices-prices.ensures.each a) in
+    let small : (a : ℕ) → nat_abs (price a) ≤ steep = λ a. flat _ (c.no_prices-prices.ensures.each a) in
     record {
       answer = reach_answer n arcs sealed s price small c.args.plan.now c.trace.new.plan c.trace.result c.trace.ensures;
       plan = reach_wrote n arcs sealed s price small c.args.plan.now c.trace.new.plan c.trace.result c.trace.ensures;

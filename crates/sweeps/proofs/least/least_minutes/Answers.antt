@@ -12,8 +12,8 @@ not_negative : (x : ℤ) (n : ℕ) → x ≡ pos n → SFits w64 x → T (non_ne
 not_negative x n e f =
     subst (λ z. T (non_neg z) × Fits w64 (nat_abs z)) (sym (to_z-of_z w64 x f ∙ e)) (tt, record { fits = omega (arith, ints, f, e) })
 
-pub overflow-cast-result : goal.overflow-cast-result
-overflow-cast-result c =
+pub overflow_cast-result : goal.overflow_cast-result
+overflow_cast-result c =
     let arcs = arcs_of c.args.chart.now in
     let r = some-cost arcs (cheapest_plan (places_of c.args.chart.now) arcs) c.in-Some.minutes c.in-Some.ensures.amount in
     let f : SFits w64 c.in-Some.minutes = search rules in

@@ -27,8 +27,8 @@ relax-requires g c =
     let nodes = (c.requires.sealed.arc i c.loop-i-test.true).noded in
     let more : k + 1 ≤ n = omega (arith, c.requires.more) in
     let near = st.near_node x nodes in
-    let from : 32 * c.row-at-from.result + c.near-end.result ≡ spot h n k (h.near x) = let a = c.row-at-from.ensures in let b = c.near-end.ensures in cc in
-    let to : 32 * c.row-at-to.result + c.far-end.result ≡ spot h n (k + 1) (h.far x) = let a = c.row-at-to.ensures in let b = c.far-end.ensures in cc in
+    let from : 32 * c.row_at-from.result + c.near_end.result ≡ spot h n k (h.near x) = let a = c.row_at-from.ensures in let b = c.near_end.ensures in cc in
+    let to : 32 * c.row_at-to.result + c.far_end.result ≡ spot h n (k + 1) (h.far x) = let a = c.row_at-to.ensures in let b = c.far_end.ensures in cc in
     record {
       from-within = omega (arith, from, spot_within h st n k (h.near x) few (omega arith) near);
       to-within = omega (arith, to, spot_within h st n (k + 1) (h.far x) few more (st.far_node x nodes));
@@ -54,17 +54,17 @@ loop-i-preserved g c =
     let nodes = (c.requires.sealed.arc i c.loop-i-test.true).noded in
     elim c.if-standing-i.branch [
       | then-standing-i+then-arc-place w ↦
-          let a = c.row-at-from.ensures in
-          let b = c.row-at-to.ensures in
-          let d = w.near-end.ensures in
-          let e = w.far-end.ensures in
+          let a = c.row_at-from.ensures in
+          let b = c.row_at-to.ensures in
+          let d = w.near_end.ensures in
+          let e = w.far_end.ensures in
           let p = price_passed (price i) (small i) in
           let r = w.relax.ensures in
           let o = w.out-is in
-          let took = and_from (s i) _ w.if-standing-i.true (eq-eqb x.place (h.place n k) (w.if-arc-place.true ∙ c.place-at-place.ensures)) in
+          let took = and_from (s i) _ w.if-standing-i.true (eq-eqb x.place (h.place n k) (w.if-arc-place.true ∙ c.place_at-place.ensures)) in
           arriving-yes t laws h st n few arcs s price small k i c.requires.more c.loop-i.out c.if-standing-i.out (omega arith) took nodes c.loop-i.invariant (cc)
       | else-standing-i w ↦ subst (λ out. Arriving t h n arcs s price k (i + 1) out) (sym w.out-is) (arriving-no t laws h st n few arcs s price small k i c.requires.more c.loop-i.out (elim w.else-standing-i.branch [
-        | else-standing-i-via-then-standing-i+else-arc-place u ↦ and_right (s i) _ (ne_eqb x.place (h.place n k) (λ q. u.if-arc-place.false (q ∙ sym c.place-at-place.ensures)))
+        | else-standing-i-via-then-standing-i+else-arc-place u ↦ and_right (s i) _ (ne_eqb x.place (h.place n k) (λ q. u.if-arc-place.false (q ∙ sym c.place_at-place.ensures)))
         | else-standing-i-via-else-standing-i u ↦ and_left (s i) _ u.if-standing-i.false
       ]) c.loop-i.invariant)
     ]

@@ -49,13 +49,13 @@ pick-requires g c = record {
   before-end = omega arith;
 }
 
-pub returns-in-default : goal.returns-in-default
-returns-in-default g c =
+pub returns-in_default : goal.returns-in_default
+returns-in_default g c =
     let t = g.T.Tally in
     let n = c.args.places in
     let arcs = c.args.arcs.now in
     let there = attained t g.met.T.Tally.lawful n arcs c.requires.sealed (marked c.args.standing.now) (price_at c.args.prices.now) c.requires.fit.small c.first.ensures.chooses (c.loop-j.j + 1) c.loop-j.node c.loop-j.invariant.2 (omega arith) c.loop-j.invariant.1 in
-    absurd (c.in-default.ensures there.0 there.1.0 there.1.1)
+    absurd (c.in_default.ensures there.0 there.1.0 there.1.1)
 
 pub loop-j-preserved : goal.loop-j-preserved
 loop-j-preserved g c =

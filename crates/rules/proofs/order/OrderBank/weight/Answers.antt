@@ -11,4 +11,4 @@ pub returns : goal.returns
 returns c =
     let f : SFits w64 c.weighs.result = search rules in
     ap Some (to_z-of_z w64 c.weighs.result f ∙ c.weighs.ensures)
-    ∙ order_weight_lem c.args.self.now.pairs.now c.args.rule c.args.place c.args.route _ (omega (arith, c.count.ensures)) (sym c.if-not-on-grid.ensures)
+    ∙ order_weight_lem c.args.self.now.pairs.now c.args.rule c.args.place c.args.route _ (omega (arith, c.count.ensures)) (sym c.if-not-on_grid.ensures)

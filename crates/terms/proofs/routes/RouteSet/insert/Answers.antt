@@ -8,5 +8,5 @@ returns c = record {
   answer = search rules;
   inside = λ q. search (rules, put_in);
   bits = search rules;
-  refused = λ h. absurd (omega (arith, leb-true c.args.route 63 (sym c.if-not-is-route.ensures)));
+  refused = λ h. absurd (omega (arith, leb-true c.args.route 63 (sym c.if-not-is_route.ensures)));
 }
