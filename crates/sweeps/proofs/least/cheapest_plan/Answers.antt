@@ -1,10 +1,8 @@
-use Rattle.std.proofs.Common.{◌≡◌, ℕ, ◌<◌, ◌≤◌, true, ◌⊎◌, List, length, get_or, ℤ, pos, nat_abs, Option, sym, refl, ap, ◌∙◌, subst, ⊎_elim, arith}
-use Rattle.std.proofs.lemmas.Bool.{cases_lt}
+use Rattle.std.proofs.Common.{◌≡◌, ℕ, ◌<◌, true, List, length, pos, Option, ap, ◌∙◌, arith}
 use Rattle.terms.specs.declared.arc.Arc.{Arc}
-use Rattle.plans.specs.Arcs.{arc_at, Sealed}
+use Rattle.plans.specs.Arcs.{arc_at}
 use Rattle.plans.specs.Firsts.{written}
 use Rattle.charts.specs.Drafts.{places_of, arcs_of}
-use Rattle.tallies.specs.Laws.{steep}
 use Rattle.ways.specs.Amounts.{marked, price_at}
 use Rattle.ways.proofs.Minutes.{cheapest_minutes, amount_minutes, minutes_small}
 use Rattle.sweeps.proofs.least.cheapest_plan.Goals as goal

@@ -1,7 +1,7 @@
-use Rattle.std.proofs.Common.{◌≡◌, ℕ, ◌≤◌, get_or, pos, nat_abs, sym, refl, ap, ◌∙◌, subst, arith}
+use Rattle.std.proofs.Common.{◌≡◌, ℕ, ◌≤◌, pos, nat_abs, sym, refl, subst, arith}
 use Rattle.charts.specs.Drafts.{places_of, arcs_of}
 use Rattle.tallies.specs.Laws.{steep}
-use Rattle.ways.specs.Amounts.{Sweepable, marked, price_at}
+use Rattle.ways.specs.Amounts.{marked, price_at}
 use Rattle.ways.proofs.Writes.{reach_wrote, reach_answer}
 use Rattle.sweeps.proofs.least.first_plan.Goals as goal
 

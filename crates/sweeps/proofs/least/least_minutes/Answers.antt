@@ -1,4 +1,4 @@
-use Rattle.std.proofs.Common.{◌≡◌, ℕ, ◌<◌, ◌≤◌, false, T, ltb, length, ℤ, pos, nat_abs, Some, Ok, Option, sym, refl, ap, ◌∙◌, subst, arith, w64, Fits, SFits, to_z, of_z, rules}
+use Rattle.std.proofs.Common.{◌≡◌, ℕ, ◌≤◌, false, T, ltb, length, ℤ, pos, nat_abs, Some, Ok, sym, ap, ◌∙◌, subst, arith, w64, Fits, SFits, to_z, of_z, rules}
 use lib.Signed.{non_neg}
 use Rattle.std.proofs.lemmas.Int.{to_z-of_z, ints}
 use Rattle.std.proofs.lemmas.Bool.{le-ltb}

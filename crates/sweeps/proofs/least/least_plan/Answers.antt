@@ -1,4 +1,4 @@
-use Rattle.std.proofs.Common.{◌≡◌, get_or, refl, ◌∙◌}
+use Rattle.std.proofs.Common.{◌∙◌}
 use Rattle.charts.specs.Drafts.{places_of, arcs_of}
 use Rattle.ways.specs.Amounts.{marked, price_at}
 use Rattle.ways.proofs.Firsts.{least-standing}

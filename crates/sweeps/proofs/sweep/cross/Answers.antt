@@ -1,9 +1,9 @@
-use Rattle.std.proofs.Common.{◌≡◌, ◌+◌, ◌*◌, ◌<◌, ◌≤◌, length, get_or, pos, sym, ap, ◌∙◌, subst, arith}
+use Rattle.std.proofs.Common.{◌≡◌, ◌+◌, ◌*◌, ◌<◌, ◌≤◌, get_or, sym, ◌∙◌, subst, arith}
 use Rattle.std.proofs.lemmas.Bool.{eq-eqb, ne_eqb, and_from, and_left, and_right}
 use Rattle.plans.specs.Arcs.{arc_at}
 use Rattle.tallies.specs.Laws.{wide}
 use Rattle.ways.specs.Amounts.{marked, price_at}
-use Rattle.ways.specs.Ways.{relaxed, spot}
+use Rattle.ways.specs.Ways.{spot}
 use Rattle.ways.proofs.Tables.{Arriving, price_passed, arriving-start, arriving-all, arriving-no, arriving-yes, before-narrow, spot_within}
 use Rattle.sweeps.proofs.sweep.cross.Goals as goal
 use Rattle.sweeps.proofs.sweep.cross.Goals.{then-standing-i+then-arc-place, else-standing-i, else-standing-i-via-then-standing-i+else-arc-place, else-standing-i-via-else-standing-i}
@@ -30,9 +30,9 @@ relax-requires g c =
     let from : 32 * c.row_at-from.result + c.near_end.result ≡ spot h n k (h.near x) = let a = c.row_at-from.ensures in let b = c.near_end.ensures in cc in
     let to : 32 * c.row_at-to.result + c.far_end.result ≡ spot h n (k + 1) (h.far x) = let a = c.row_at-to.ensures in let b = c.far_end.ensures in cc in
     record {
-      from-within = omega (arith, from, spot_within h st n k (h.near x) few (omega arith) near);
-      to-within = omega (arith, to, spot_within h st n (k + 1) (h.far x) few more (st.far_node x nodes));
-      amount-small = subst (λ q. t.size (get_or c.loop-i.out q t.nothing) < wide) (sym from) (before-narrow t g.met.T.Tally.lawful h st n few arcs _ _ small k i c.requires.more c.loop-i.out (h.near x) near c.loop-i.invariant);
+      from_within = omega (arith, from, spot_within h st n k (h.near x) few (omega arith) near);
+      to_within = omega (arith, to, spot_within h st n (k + 1) (h.far x) few more (st.far_node x nodes));
+      amount_small = subst (λ q. t.size (get_or c.loop-i.out q t.nothing) < wide) (sym from) (before-narrow t g.met.T.Tally.lawful h st n few arcs _ _ small k i c.requires.more c.loop-i.out (h.near x) near c.loop-i.invariant);
       price_small = rw (price_passed (price_at c.args.prices.now i) (small i)) (omega (arith, small i));
     }
 

@@ -1,10 +1,9 @@
-use Rattle.std.proofs.Common.{◌≡◌, ℕ, ◌+◌, ◌*◌, ◌<◌, ◌≤◌, List, length, get_or, set, sym, ap, ◌∙◌, subst, subst₂, arith, length-set}
+use Rattle.std.proofs.Common.{◌≡◌, ℕ, ◌*◌, ◌≤◌, List, get_or, set, sym, subst, subst₂, arith, length-set}
 use Rattle.terms.specs.declared.arc.Arc.{Arc}
 use Rattle.plans.specs.Arcs.{Sealed}
-use Rattle.charts.specs.Drafts.{places_of, arcs_of}
 use Rattle.ways.specs.Amounts.{marked, price_at, Sweepable}
 use Rattle.ways.specs.Ways.{spot, Filled}
-use Rattle.ways.proofs.Tables.{filled_start, spot_within}
+use Rattle.ways.proofs.Tables.{filled_start}
 use Rattle.sweeps.proofs.sweep.sweep.Goals as goal
 
 pub loop-step-init : goal.loop-step-init
@@ -14,7 +13,7 @@ loop-step-init g c =
     let n = c.places-places.result in
     let few : n ≤ 32 = subst (λ m. m ≤ 32) (sym c.places-places.ensures.value) c.places-places.ensures.sealed.few in
     let at : spot h n 0 0 ≡ 32 * c.row_at.result = omega (arith, c.row_at.ensures) in
-    let none = c.no_plan_lem.ensures in
+    let none = c.no_plan.ensures in
     let blank : (q : ℕ) → get_or c.fill.new.out q t.nothing ≡ t.nothing = λ q. (subst (λ x. get_or c.fill.new.out q x ≡ x) none (c.fill.ensures q)) in
     subst₂ (λ q x. Filled t h n c.arcs-arcs.result.now (marked c.args.standing.now) (price_at c.args.prices.now) 0 (set c.fill.new.out q x)) at (sym c.empty_plan.ensures) (filled_start t g.met.T.Tally.lawful h g.met.H.Heading.lawful n few c.arcs-arcs.result.now _ _ c.fill.new.out (omega arith) blank)
 

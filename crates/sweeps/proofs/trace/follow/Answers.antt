@@ -1,10 +1,10 @@
-use Rattle.std.proofs.Common.{◌≡◌, ℕ, suc, ◌+◌, ◌-◌, ◌*◌, ◌<◌, ◌≤◌, length, get_or, take, drop, set, sym, refl, ap, ◌∙◌, subst, add-one, arith}
+use Rattle.std.proofs.Common.{◌≡◌, suc, ◌+◌, ◌<◌, length, take, set, refl, ◌∙◌, subst, arith}
 use Rattle.std.proofs.lemmas.List.{drop-set-lt}
 use Rattle.std.proofs.lemmas.Bool.{both_ways, and_parts}
 use Rattle.plans.specs.Arcs.{arc_at}
 use Rattle.plans.specs.Plans.{next, Node}
 use Rattle.ways.specs.Amounts.{marked, price_at, backward_amount}
-use Rattle.ways.specs.Traces.{Traced, Completes, Attaining}
+use Rattle.ways.specs.Traces.{Traced, Completes}
 use Rattle.ways.proofs.Levels.{root_node, end_node, read_table, attained, amount_left, completes_more, completes_all, traced_attains}
 use Rattle.sweeps.proofs.trace.follow.Goals as goal
 
@@ -17,7 +17,7 @@ returns-then-first g c =
     let arcs = c.args.arcs.now in
     let x = c.index-table-0.result in
     let at = read_table t laws n arcs c.requires.sealed (marked c.args.standing.now) (price_at c.args.prices.now) c.requires.fit.small c.args.table.now 1 0 0 x c.requires.filled c.requires.long (root_node n arcs c.requires.sealed) refl c.index-table-0.is in
-    let none = c.no_plan_lem.ensures in
+    let none = c.no_plan.ensures in
     let ne = laws.neutral x in
     let chosen = c.first.ensures.chosen c.if-first.true in
     (cc, refl)
@@ -32,7 +32,7 @@ loop-j-init g c =
     let at = read_table t laws n arcs c.requires.sealed (marked c.args.standing.now) (price_at c.args.prices.now) c.requires.fit.small c.args.table.now 1 0 0 x c.requires.filled c.requires.long (root_node n arcs c.requires.sealed) refl c.index-table-0.is in (
       (λ p h. h),
       (λ none.
-          let np = c.no_plan_lem.ensures in
+          let np = c.no_plan.ensures in
           let ne = laws.neutral x in
           both_ways c.first.result c.if-first.false (c.first.ensures.told (cc))),
       root_node n arcs c.requires.sealed,
@@ -46,7 +46,7 @@ pick-requires g c = record {
   filled = c.requires.filled;
   long = c.requires.long;
   there = c.loop-j.invariant.2;
-  before-end = omega arith;
+  before_end = omega arith;
 }
 
 pub returns-in_default : goal.returns-in_default
@@ -100,7 +100,7 @@ returns g c =
     let all : j ≡ n = omega arith in
     let traced = subst (λ m. Traced t n arcs s price 1 0 (take m plan)) all (completes_all t laws n arcs sealed s price small plan j (j + 1) c.loop-j.node (omega arith) c.loop-j.invariant.0) in (
       (λ none.
-          let np = c.no_plan_lem.ensures in
+          let np = c.no_plan.ensures in
           let ne = laws.neutral x in
           both_ways c.first.result c.if-first.false (c.first.ensures.told (cc))),
       traced,

@@ -1,4 +1,4 @@
-use Rattle.std.proofs.Common.{◌≡◌, ℕ, suc, ◌+◌, take, drop}
+use Rattle.std.proofs.Common.{◌≡◌, ◌+◌, take, drop}
 use Rattle.plans.specs.Plans.{Node}
 use Rattle.ways.specs.Amounts.{marked, price_at, backward_amount}
 use Rattle.ways.specs.Traces.{Completes}

@@ -1,4 +1,4 @@
-use Rattle.std.proofs.Common.{◌≡◌, ℕ, ◌≤◌, List, length, sym, subst, subst₂}
+use Rattle.std.proofs.Common.{ℕ, ◌≤◌, List, length, sym, subst, subst₂}
 use Rattle.terms.specs.declared.arc.Arc.{Arc}
 use Rattle.plans.specs.Arcs.{Sealed}
 use Rattle.ways.specs.Amounts.{marked, price_at, Sweepable, Backward}
