@@ -8,17 +8,17 @@ use Rattle.lines.proofs.reader.Reader.amount.Goals as goal
 close : Follows (Byte 41 Open)
 close = byte_follows 41 Open (λ d. omega arith) open_follows.live
 
-pub returns-in-err-blank : goal.returns-in-err-blank
-returns-in-err-blank c = rw c.from-residual.ensures (as_amount Open (byte_none (signed_live _ close.live) c.in-err-blank.ensures))
+pub returns-in_err-blank : goal.returns-in_err-blank
+returns-in_err-blank c = rw c.from_residual.ensures (as_amount Open (byte_none (signed_live _ close.live) c.in_err-blank.ensures))
 
-pub returns-in-err-amount : goal.returns-in-err-amount
-returns-in-err-amount c = rw c.from-residual-in-err-amount.ensures (as_amount Open (byte_some c.in-ok-blank.ensures (piece_none signed_told (λ _. close) c.in-err-amount.ensures)))
+pub returns-in_err-amount : goal.returns-in_err-amount
+returns-in_err-amount c = rw c.from_residual-in_err-amount.ensures (as_amount Open (byte_some c.in_ok-blank.ensures (piece_none signed_told (λ _. close) c.in_err-amount.ensures)))
 
-pub returns-in-err-pass : goal.returns-in-err-pass
-returns-in-err-pass c =
-    rw c.from-residual-in-err-pass.ensures
-    (as_amount Open (byte_some c.in-ok-blank.ensures (piece_some signed_told (λ _. close) _ c.in-ok-amount.ensures
-    (byte_none open_follows.live c.in-err-pass.ensures))))
+pub returns-in_err-pass : goal.returns-in_err-pass
+returns-in_err-pass c =
+    rw c.from_residual-in_err-pass.ensures
+    (as_amount Open (byte_some c.in_ok-blank.ensures (piece_some signed_told (λ _. close) _ c.in_ok-amount.ensures
+    (byte_none open_follows.live c.in_err-pass.ensures))))
 
 pub returns : goal.returns
-returns c = amount_whole _ _ _ _ _ c.in-ok-blank.ensures c.in-ok-amount.ensures c.in-ok-pass.ensures
+returns c = amount_whole _ _ _ _ _ c.in_ok-blank.ensures c.in_ok-amount.ensures c.in_ok-pass.ensures

@@ -3,8 +3,8 @@ use Rattle.lines.proofs.Numerals.{stepped}
 use Rattle.lines.proofs.Forming.{bracket_none, word_none, word_some}
 use Rattle.lines.proofs.reader.Reader.form.Goals as goal
 
-pub returns-in-default : goal.returns-in-default
-returns-in-default c = bracket_none _ (λ e. omega (arith, c.peek.ensures))
+pub returns-in_default : goal.returns-in_default
+returns-in_default c = bracket_none _ (λ e. omega (arith, c.peek.ensures))
 
 pub returns-in-err-word : goal.returns-in-err-word
 returns-in-err-word c = rw c.from-residual.ensures (word_none _ c.skip.new.self.rest.now _ (stepped _ _ 40 _ (omega arith) c.peek.ensures c.in-40.is c.skip.ensures) c.in-err-word.ensures)

@@ -21,25 +21,25 @@ pub returns-in-err-arc : goal.returns-in-err-arc
 unfolding Body
 returns-in-err-arc c = rw c.from-residual-in-err-arc.ensures (body-none _ word.Arc _ _ c.in-Arc.is c.in-err-arc.ensures)
 
-pub returns-in-err-routes : goal.returns-in-err-routes
+pub returns-in_err-routes : goal.returns-in_err-routes
 unfolding Body
-returns-in-err-routes c = rw c.from-residual-in-err-routes.ensures (body-none _ word.Once _ _ c.in-Once.is c.in-err-routes.ensures)
+returns-in_err-routes c = rw c.from-residual-in-err-routes.ensures (body-none _ word.Once _ _ c.in-Once.is c.in-err-routes.ensures)
 
-pub returns-in-err-first : goal.returns-in-err-first
+pub returns-in_err-first : goal.returns-in_err-first
 unfolding Body
-returns-in-err-first c = rw c.from-residual-in-err-first.ensures (body-none _ word.Order _ _ c.in-Order.is c.in-err-first.ensures)
+returns-in_err-first c = rw c.from-residual-in-err-first.ensures (body-none _ word.Order _ _ c.in-Order.is c.in-err-first.ensures)
 
-pub returns-in-err-limit : goal.returns-in-err-limit
+pub returns-in_err-limit : goal.returns-in_err-limit
 unfolding Body
-returns-in-err-limit c = rw c.from-residual-in-err-limit.ensures (body-none _ word.Budget _ _ c.in-Budget.is c.in-err-limit.ensures)
+returns-in_err-limit c = rw c.from-residual-in-err-limit.ensures (body-none _ word.Budget _ _ c.in-Budget.is c.in-err-limit.ensures)
 
 pub returns-in-err-one-2 : goal.returns-in-err-one-2
 unfolding Body
 returns-in-err-one-2 c = rw c.from-residual-in-err-one-2.ensures (body-none _ word.Claim _ _ c.in-Claim.is c.in-err-one-2.ensures)
 
-pub returns-in-err-place : goal.returns-in-err-place
+pub returns-in_err-place : goal.returns-in_err-place
 unfolding Body
-returns-in-err-place c = rw c.from-residual-in-err-place.ensures (body-none _ word.Split _ _ c.in-Split.is c.in-err-place.ensures)
+returns-in_err-place c = rw c.from-residual-in-err-place.ensures (body-none _ word.Split _ _ c.in-Split.is c.in-err-place.ensures)
 
 -- the items are there
 pub returns-in-ok-header : goal.returns-in-ok-header

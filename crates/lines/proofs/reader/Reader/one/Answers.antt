@@ -5,11 +5,11 @@ use Rattle.lines.proofs.Pieces.{item_told}
 use Rattle.lines.proofs.Bodies.{ending}
 use Rattle.lines.proofs.reader.Reader.one.Goals as goal
 
-pub returns-in-err-n : goal.returns-in-err-n
-returns-in-err-n c = rw c.from-residual.ensures (piece_none item_told (λ _. ending) c.in-err-n.ensures)
+pub returns-in_err-n : goal.returns-in_err-n
+returns-in_err-n c = rw c.from_residual.ensures (piece_none item_told (λ _. ending) c.in_err-n.ensures)
 
-pub returns-in-err-finish : goal.returns-in-err-finish
-returns-in-err-finish c = rw c.from-residual-in-err-finish.ensures (piece_some item_told (λ _. ending) _ c.in-ok-n.ensures c.in-err-finish.ensures)
+pub returns-in_err-finish : goal.returns-in_err-finish
+returns-in_err-finish c = rw c.from_residual-in_err-finish.ensures (piece_some item_told (λ _. ending) _ c.in_ok-n.ensures c.in_err-finish.ensures)
 
 pub returns : goal.returns
-returns c = let h = c.in-ok-n.ensures in (h.0, h.1 ∙ ap (λ t. number c.in-ok-n.n ++ t) c.in-ok-finish.ensures)
+returns c = let h = c.in_ok-n.ensures in (h.0, h.1 ∙ ap (λ t. number c.in_ok-n.n ++ t) c.in_ok-finish.ensures)

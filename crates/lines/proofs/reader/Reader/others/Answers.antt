@@ -13,8 +13,8 @@ loop-self-preserved c = goes-more number_told some_number (codes ")") _ _ c.loop
 pub returns-in-err-number : goal.returns-in-err-number
 returns-in-err-number c = rw c.from-residual.ensures (at_item number_told some_number (codes ")") _ _ c.loop-self.invariant c.skip.new.self.rest.now _ (stepped _ _ 32 _ (omega arith) c.peek.ensures c.in-32.is c.skip.ensures) (number_halts c.in-err-number.ensures))
 
-pub returns-in-default : goal.returns-in-default
-returns-in-default c = at-neither number_told some_number (codes ")") _ _ c.loop-self.invariant (λ e. omega (arith, c.peek.ensures)) (λ e. omega (arith, c.peek.ensures))
+pub returns-in_default : goal.returns-in_default
+returns-in_default c = at-neither number_told some_number (codes ")") _ _ c.loop-self.invariant (λ e. omega (arith, c.peek.ensures)) (λ e. omega (arith, c.peek.ensures))
 
 pub returns-in-41 : goal.returns-in-41
 returns-in-41 c = at_bracket number_told some_number (codes ")") _ _ c.loop-self.invariant c.finish.result c.skip-in-41.new.self.rest.now _ (stepped _ _ 41 _ (omega arith) c.peek.ensures c.in-41.is c.skip-in-41.ensures) c.finish.ensures

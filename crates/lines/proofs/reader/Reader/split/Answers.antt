@@ -5,14 +5,14 @@ use Rattle.lines.proofs.Pieces.{item_told}
 use Rattle.lines.proofs.Listing.{routes_follows}
 use Rattle.lines.proofs.reader.Reader.split.Goals as goal
 
-pub returns-in-err-place : goal.returns-in-err-place
-returns-in-err-place c = rw c.from-residual.ensures (piece_none item_told (λ _. routes_follows) c.in-err-place.ensures)
+pub returns-in_err-place : goal.returns-in_err-place
+returns-in_err-place c = rw c.from_residual.ensures (piece_none item_told (λ _. routes_follows) c.in_err-place.ensures)
 
-pub returns-in-err-routes : goal.returns-in-err-routes
-returns-in-err-routes c = rw c.from-residual-in-err-routes.ensures (piece_some item_told (λ _. routes_follows) _ c.in-ok-place.ensures c.in-err-routes.ensures)
+pub returns-in_err-routes : goal.returns-in_err-routes
+returns-in_err-routes c = rw c.from_residual-in_err-routes.ensures (piece_some item_told (λ _. routes_follows) _ c.in_ok-place.ensures c.in_err-routes.ensures)
 
 pub returns : goal.returns
 returns c =
-    let h = c.in-ok-place.ensures in
-    let k = c.in-ok-routes.ensures in
-    (h.0, (k.0, k.1, k.2, h.1 ∙ ap (λ t. number c.in-ok-place.place ++ t) k.3))
+    let h = c.in_ok-place.ensures in
+    let k = c.in_ok-routes.ensures in
+    (h.0, (k.0, k.1, k.2, h.1 ∙ ap (λ t. number c.in_ok-place.place ++ t) k.3))

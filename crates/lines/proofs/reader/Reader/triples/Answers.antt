@@ -10,14 +10,14 @@ loop-self-smaller c = shorter triple_told some-triple [] _ _ c.loop-self.invaria
 pub loop-self-preserved : goal.loop-self-preserved
 loop-self-preserved c = goes-more triple_told some-triple [] _ _ c.loop-self.invariant _ c.skip.new.self.rest.now _ (stepped _ _ 32 _ (omega arith) c.peek.ensures c.in-32.is c.skip.ensures) c.in-ok-triple.ensures
 
-pub returns-in-err-triple : goal.returns-in-err-triple
-returns-in-err-triple c = rw c.from-residual.ensures (at_item triple_told some-triple [] _ _ c.loop-self.invariant c.skip.new.self.rest.now _ (stepped _ _ 32 _ (omega arith) c.peek.ensures c.in-32.is c.skip.ensures) c.in-err-triple.ensures)
+pub returns-in_err-triple : goal.returns-in_err-triple
+returns-in_err-triple c = rw c.from-residual.ensures (at_item triple_told some-triple [] _ _ c.loop-self.invariant c.skip.new.self.rest.now _ (stepped _ _ 32 _ (omega arith) c.peek.ensures c.in-32.is c.skip.ensures) c.in-err-triple.ensures)
 
-pub returns-in-default : goal.returns-in-default
-returns-in-default c = at-neither triple_told some-triple [] _ _ c.loop-self.invariant (λ e. omega (arith, c.peek.ensures)) (λ e. omega (arith, c.peek.ensures))
+pub returns-in_default : goal.returns-in_default
+returns-in_default c = at-neither triple_told some-triple [] _ _ c.loop-self.invariant (λ e. omega (arith, c.peek.ensures)) (λ e. omega (arith, c.peek.ensures))
 
-pub returns-in-err-end : goal.returns-in-err-end
-returns-in-err-end c = rw c.from-residual-in-err-end.ensures (at-broken triple_told some-triple [] _ _ c.loop-self.invariant c.skip-in-41.new.self.rest.now _ (stepped _ _ 41 _ (omega arith) c.peek.ensures c.in-41.is c.skip-in-41.ensures) c.in-err-end.ensures)
+pub returns-in_err-end : goal.returns-in_err-end
+returns-in_err-end c = rw c.from-residual-in-err-end.ensures (at-broken triple_told some-triple [] _ _ c.loop-self.invariant c.skip-in-41.new.self.rest.now _ (stepped _ _ 41 _ (omega arith) c.peek.ensures c.in-41.is c.skip-in-41.ensures) c.in-err-end.ensures)
 
 pub returns-in-41 : goal.returns-in-41
 returns-in-41 c = (at-whole triple_told some-triple [] _ _ c.loop-self.invariant c.skip-in-41.new.self.rest.now (stepped _ _ 41 _ (omega arith) c.peek.ensures c.in-41.is c.skip-in-41.ensures) c.in-ok-end.ensures, refl)
