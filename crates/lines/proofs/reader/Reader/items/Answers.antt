@@ -9,67 +9,67 @@ use Rattle.lines.proofs.Holding.{pairs_held, arcs_held, kept_said, once_said, bu
 use Rattle.lines.proofs.reader.Reader.items.Goals as goal
 
 -- the items break off
-pub returns-in-err-header : goal.returns-in-err-header
+pub returns-in_err-header-in-Casebook : goal.returns-in_err-header-in-Casebook
 unfolding Body
-returns-in-err-header c = rw c.from-residual.ensures (body-none _ word.Casebook _ _ c.in-Casebook.is c.in-err-header.ensures)
+returns-in_err-header-in-Casebook c = rw c.from_residual.ensures (body-none _ word.Casebook _ _ c.in-Casebook.is c.in_err-header-in-Casebook.ensures)
 
-pub returns-in-err-one : goal.returns-in-err-one
+pub returns-in_err-one-in-Places : goal.returns-in_err-one-in-Places
 unfolding Body
-returns-in-err-one c = rw c.from-residual-in-err-one.ensures (body-none _ word.Places _ _ c.in-Places.is c.in-err-one.ensures)
+returns-in_err-one-in-Places c = rw c.from_residual-in_err-one-in-Places.ensures (body-none _ word.Places _ _ c.in-Places.is c.in_err-one-in-Places.ensures)
 
-pub returns-in-err-arc : goal.returns-in-err-arc
+pub returns-in_err-arc-in-Arc : goal.returns-in_err-arc-in-Arc
 unfolding Body
-returns-in-err-arc c = rw c.from-residual-in-err-arc.ensures (body-none _ word.Arc _ _ c.in-Arc.is c.in-err-arc.ensures)
+returns-in_err-arc-in-Arc c = rw c.from_residual-in_err-arc-in-Arc.ensures (body-none _ word.Arc _ _ c.in-Arc.is c.in_err-arc-in-Arc.ensures)
 
-pub returns-in_err-routes : goal.returns-in_err-routes
+pub returns-in_err-routes-in-Once : goal.returns-in_err-routes-in-Once
 unfolding Body
-returns-in_err-routes c = rw c.from-residual-in-err-routes.ensures (body-none _ word.Once _ _ c.in-Once.is c.in-err-routes.ensures)
+returns-in_err-routes-in-Once c = rw c.from_residual-in_err-routes-in-Once.ensures (body-none _ word.Once _ _ c.in-Once.is c.in_err-routes-in-Once.ensures)
 
-pub returns-in_err-first : goal.returns-in_err-first
+pub returns-in_err-first-in-Order : goal.returns-in_err-first-in-Order
 unfolding Body
-returns-in_err-first c = rw c.from-residual-in-err-first.ensures (body-none _ word.Order _ _ c.in-Order.is c.in-err-first.ensures)
+returns-in_err-first-in-Order c = rw c.from_residual-in_err-first-in-Order.ensures (body-none _ word.Order _ _ c.in-Order.is c.in_err-first-in-Order.ensures)
 
-pub returns-in_err-limit : goal.returns-in_err-limit
+pub returns-in_err-limit-in-Budget : goal.returns-in_err-limit-in-Budget
 unfolding Body
-returns-in_err-limit c = rw c.from-residual-in-err-limit.ensures (body-none _ word.Budget _ _ c.in-Budget.is c.in-err-limit.ensures)
+returns-in_err-limit-in-Budget c = rw c.from_residual-in_err-limit-in-Budget.ensures (body-none _ word.Budget _ _ c.in-Budget.is c.in_err-limit-in-Budget.ensures)
 
-pub returns-in-err-one-2 : goal.returns-in-err-one-2
+pub returns-in_err-one-in-Claim : goal.returns-in_err-one-in-Claim
 unfolding Body
-returns-in-err-one-2 c = rw c.from-residual-in-err-one-2.ensures (body-none _ word.Claim _ _ c.in-Claim.is c.in-err-one-2.ensures)
+returns-in_err-one-in-Claim c = rw c.from_residual-in_err-one-in-Claim.ensures (body-none _ word.Claim _ _ c.in-Claim.is c.in_err-one-in-Claim.ensures)
 
-pub returns-in_err-place : goal.returns-in_err-place
+pub returns-in_err-place-in-Split : goal.returns-in_err-place-in-Split
 unfolding Body
-returns-in_err-place c = rw c.from-residual-in-err-place.ensures (body-none _ word.Split _ _ c.in-Split.is c.in-err-place.ensures)
+returns-in_err-place-in-Split c = rw c.from_residual-in_err-place-in-Split.ensures (body-none _ word.Split _ _ c.in-Split.is c.in_err-place-in-Split.ensures)
 
 -- the items are there
-pub returns-in-ok-header : goal.returns-in-ok-header
+pub returns-in_ok-header-in-Casebook : goal.returns-in_ok-header-in-Casebook
 unfolding headed
-returns-in-ok-header c = record { form = Casebook; means = refl; proper = tt; whole = after _ word.Casebook _ _ c.in-Casebook.is c.in-ok-header.ensures }
+returns-in_ok-header-in-Casebook c = record { form = Casebook; means = refl; proper = tt; whole = after _ word.Casebook _ _ c.in-Casebook.is c.in_ok-header-in-Casebook.ensures }
 
-pub returns-in-ok-one : goal.returns-in-ok-one
+pub returns-in_ok-one-in-Places : goal.returns-in_ok-one-in-Places
 unfolding headed
-returns-in-ok-one c = let h = c.in-ok-one.ensures in record { form = Places _; means = refl; proper = h.0; whole = after _ word.Places _ _ c.in-Places.is h.1 }
+returns-in_ok-one-in-Places c = let h = c.in_ok-one-in-Places.ensures in record { form = Places _; means = refl; proper = h.0; whole = after _ word.Places _ _ c.in-Places.is h.1 }
 
-pub returns-in-ok-arc : goal.returns-in-ok-arc
+pub returns-in_ok-arc-in-Arc : goal.returns-in_ok-arc-in-Arc
 unfolding headed
-returns-in-ok-arc c = let h = c.in-ok-arc.ensures in record { form = Arc _; means = refl; proper = (h.0, h.1, h.2, h.3, h.4); whole = after _ word.Arc _ _ c.in-Arc.is h.5 }
+returns-in_ok-arc-in-Arc c = let h = c.in_ok-arc-in-Arc.ensures in record { form = Arc _; means = refl; proper = (h.0, h.1, h.2, h.3, h.4); whole = after _ word.Arc _ _ c.in-Arc.is h.5 }
 
-pub returns-in-ok-routes : goal.returns-in-ok-routes
-returns-in-ok-routes c = once_said _ _ _ c.in-Once.is c.requires c.in-ok-routes.ensures
+pub returns-in_ok-routes-in-Once : goal.returns-in_ok-routes-in-Once
+returns-in_ok-routes-in-Once c = once_said _ _ _ c.in-Once.is c.requires c.in_ok-routes-in-Once.ensures
 
-pub returns-in-ok-first : goal.returns-in-ok-first
+pub returns-in_ok-first-in-Order : goal.returns-in_ok-first-in-Order
 unfolding headed
-returns-in-ok-first c = let h = c.in-ok-first.ensures in record { form = Order _ _; means = refl; proper = (h.0, h.1); whole = after _ word.Order _ _ c.in-Order.is h.2 }
+returns-in_ok-first-in-Order c = let h = c.in_ok-first-in-Order.ensures in record { form = Order _ _; means = refl; proper = (h.0, h.1); whole = after _ word.Order _ _ c.in-Order.is h.2 }
 
-pub returns-in-ok-limit : goal.returns-in-ok-limit
-returns-in-ok-limit c = budget_said _ _ _ _ c.in-Budget.is c.requires c.in-ok-limit.ensures
+pub returns-in_ok-limit-in-Budget : goal.returns-in_ok-limit-in-Budget
+returns-in_ok-limit-in-Budget c = budget_said _ _ _ _ c.in-Budget.is c.requires c.in_ok-limit-in-Budget.ensures
 
-pub returns-in-ok-one-2 : goal.returns-in-ok-one-2
+pub returns-in_ok-one-in-Claim : goal.returns-in_ok-one-in-Claim
 unfolding headed
-returns-in-ok-one-2 c = let h = c.in-ok-one-2.ensures in record { form = Claim _; means = refl; proper = h.0; whole = after _ word.Claim _ _ c.in-Claim.is h.1 }
+returns-in_ok-one-in-Claim c = let h = c.in_ok-one-in-Claim.ensures in record { form = Claim _; means = refl; proper = h.0; whole = after _ word.Claim _ _ c.in-Claim.is h.1 }
 
-pub returns-in-ok-place : goal.returns-in-ok-place
-returns-in-ok-place c = split_said _ _ _ _ c.in-Split.is c.requires c.in-ok-place.ensures
+pub returns-in_ok-place-in-Split : goal.returns-in_ok-place-in-Split
+returns-in_ok-place-in-Split c = split_said _ _ _ _ c.in-Split.is c.requires c.in_ok-place-in-Split.ensures
 
 -- the form is handed on
 pub returns-in-Seal : goal.returns-in-Seal

@@ -5,13 +5,13 @@ use Rattle.lines.proofs.Listing.{goes_none, goes-more, at_item, at-neither, at_b
 use Rattle.lines.proofs.reader.Reader.others.Goals as goal
 
 pub loop-self-smaller : goal.loop-self-smaller
-loop-self-smaller c = shorter number_told some_number (codes ")") _ _ c.loop-self.invariant _ c.skip.new.self.rest.now _ (stepped _ _ 32 _ (omega arith) c.peek.ensures c.in-32.is c.skip.ensures) c.in-ok-number.ensures.1
+loop-self-smaller c = shorter number_told some_number (codes ")") _ _ c.loop-self.invariant _ c.skip.new.self.rest.now _ (stepped _ _ 32 _ (omega arith) c.peek.ensures c.in-32.is c.skip.ensures) c.in_ok-number-in-32.ensures.1
 
 pub loop-self-preserved : goal.loop-self-preserved
-loop-self-preserved c = goes-more number_told some_number (codes ")") _ _ c.loop-self.invariant _ c.skip.new.self.rest.now _ (stepped _ _ 32 _ (omega arith) c.peek.ensures c.in-32.is c.skip.ensures) c.in-ok-number.ensures
+loop-self-preserved c = goes-more number_told some_number (codes ")") _ _ c.loop-self.invariant _ c.skip.new.self.rest.now _ (stepped _ _ 32 _ (omega arith) c.peek.ensures c.in-32.is c.skip.ensures) c.in_ok-number-in-32.ensures
 
-pub returns-in-err-number : goal.returns-in-err-number
-returns-in-err-number c = rw c.from-residual.ensures (at_item number_told some_number (codes ")") _ _ c.loop-self.invariant c.skip.new.self.rest.now _ (stepped _ _ 32 _ (omega arith) c.peek.ensures c.in-32.is c.skip.ensures) (number_halts c.in-err-number.ensures))
+pub returns-in_err-number-in-32 : goal.returns-in_err-number-in-32
+returns-in_err-number-in-32 c = rw c.from_residual.ensures (at_item number_told some_number (codes ")") _ _ c.loop-self.invariant c.skip.new.self.rest.now _ (stepped _ _ 32 _ (omega arith) c.peek.ensures c.in-32.is c.skip.ensures) (number_halts c.in_err-number-in-32.ensures))
 
 pub returns-in_default : goal.returns-in_default
 returns-in_default c = at-neither number_told some_number (codes ")") _ _ c.loop-self.invariant (λ e. omega (arith, c.peek.ensures)) (λ e. omega (arith, c.peek.ensures))

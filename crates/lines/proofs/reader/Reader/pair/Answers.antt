@@ -11,9 +11,9 @@ returns-in_err-rule c = rw c.from_residual-in_err-rule.ensures (as_pair Open (by
 
 pub returns-in_err-multiplier : goal.returns-in_err-multiplier
 returns-in_err-multiplier c =
-    rw c.from-residual-in-err-multiplier.ensures
+    rw c.from_residual-in_err-multiplier.ensures
     (as_pair Open (byte_some c.in_ok-pass.ensures (piece_some number_told (λ _. amount_follows Open open_follows.live) _ c.in_ok-rule.ensures
-    c.in-err-multiplier.ensures)))
+    c.in_err-multiplier.ensures)))
 
 pub returns : goal.returns
 returns c = pair_whole _ _ _ _ _ _ c.in_ok-pass.ensures c.in_ok-rule.ensures c.in_ok-multiplier.ensures

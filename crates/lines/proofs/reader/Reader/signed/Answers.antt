@@ -10,11 +10,11 @@ returns-then-not-leads c =
     minus-none Open _ _ open_follows.live (stepped _ _ 45 _ (omega arith) c.peek.ensures c.in-45.is c.skip.ensures)
     (λ low high. c.if-not-leads.ensures (omega (arith, c.peek-in-45.ensures)) (omega (arith, c.peek-in-45.ensures)))
 
-pub returns-in-err-n-2 : goal.returns-in-err-n-2
-returns-in-err-n-2 c = rw c.from-residual-in-err-n-2.ensures (signed_none Open _ _ (λ e. omega (arith, c.peek.ensures)) (number_halts c.in-err-n-2.ensures))
+pub returns-in_err-n-in_default : goal.returns-in_err-n-in_default
+returns-in_err-n-in_default c = rw c.from_residual-in_err-n-in_default.ensures (signed_none Open _ _ (λ e. omega (arith, c.peek.ensures)) (number_halts c.in_err-n-in_default.ensures))
 
-pub returns-in-ok-n : goal.returns-in-ok-n
-returns-in-ok-n c =
-    let h = c.in-ok-n.ensures in
+pub returns-in_ok-n-in-45 : goal.returns-in_ok-n-in-45
+returns-in_ok-n-in-45 c =
+    let h = c.in_ok-n-in-45.ensures in
     let led = c.if-not-leads.ensures in
-    minus c.args.self.now.rest.now c.skip.new.self.rest.now c.number.new.self.rest.now c.in-ok-n.n (stepped _ _ 45 _ (omega arith) c.peek.ensures c.in-45.is c.skip.ensures) (omega (arith, c.peek-in-45.ensures, led.0)) h.0 h.1 h.2
+    minus c.args.self.now.rest.now c.skip.new.self.rest.now c.number.new.self.rest.now c.in_ok-n-in-45.n (stepped _ _ 45 _ (omega arith) c.peek.ensures c.in-45.is c.skip.ensures) (omega (arith, c.peek-in-45.ensures, led.0)) h.0 h.1 h.2
