@@ -69,8 +69,8 @@ one_entry table x place route long g h = go (cases_eq x.0 place) (cases_eq x.1 r
     go (inr a) _ = other (λ s _. a s) (and_left _ _ (ne_eqb x.0 place a))
 
 -- an entry that is not outside is on the grid
-entry-placed : (x : ℕ × ℕ × ℤ) → place_outside 32 x ≡ false → route_outside x ≡ false → Placed x.0 x.1
-entry-placed x p q =
+entry_placed : (x : ℕ × ℕ × ℤ) → place_outside 32 x ≡ false → route_outside x ≡ false → Placed x.0 x.1
+entry_placed x p q =
     let range = and_parts _ _ (not-false _ p) in
     record { low = leb-true 1 x.0 range.0; high = leb-true x.0 32 range.1; small = ltb-false 63 x.1 q }
 
@@ -82,7 +82,7 @@ all_entries (x ∷ xs) table long p q place route h =
     let ps = or_parts (place_outside 32 x) (some (place_outside 32) xs) p in
     let qs = or_parts (route_outside x) (some route_outside xs) q in
     all_entries xs (set table (entry_of x.0 x.1) x.2) (length-set table (entry_of x.0 x.1) x.2 ∙ long) ps.1 qs.1 place route h
-    ∙ ap (λ (w : ℤ). last_weight xs place route w) (one_entry table x place route long (entry-placed x ps.0 qs.0) h)
+    ∙ ap (λ (w : ℤ). last_weight xs place route w) (one_entry table x place route long (entry_placed x ps.0 qs.0) h)
 
 -- what is on the grid
 grid : (place route : ℕ) → on_grid place route ≡ true → Placed place route

@@ -8,7 +8,7 @@ use Rattle.lines.specs.Texts.{Item, Piece, Pairs, Triples, Numbers, Routes}
 use Rattle.lines.specs.Words.{Ending, Body}
 use Rattle.lines.proofs.Halting.{Live, Follows, byte_follows, is_follows}
 use Rattle.lines.proofs.Pieces.{item_follows, number_told, pair_told, triple_told, signed_live}
-use Rattle.lines.proofs.Listing.{many_follows, some_number, some_pair, some-triple, routes_follows}
+use Rattle.lines.proofs.Listing.{many_follows, some_number, some_pair, some_triple, routes_follows}
 
 -- the bracket that ends a form
 pub ending : Follows Ending
@@ -36,7 +36,7 @@ pairs_follow = many_follows pair_told some_pair []
 
 -- triples to the end of the line
 pub triples_follow : Follows Triples
-triples_follow = many_follows triple_told some-triple []
+triples_follow = many_follows triple_told some_triple []
 
 -- numbers to the end of the line
 pub numbers_follow : Follows Numbers

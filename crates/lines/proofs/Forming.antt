@@ -17,8 +17,8 @@ pub after : (w v : Word) (l b : List ℕ) → w ≡ v → l ≡ b → headed v b
 after w v l b same e = sym (ap (λ x. headed x l) same ∙ ap (headed v) e)
 
 -- where what follows a known word breaks off
-pub body-none : (w v : Word) (l rest : List ℕ) → w ≡ v → Halts (Body v) l rest → Halts (Body w) l rest
-body-none w v l rest same h = subst (λ x. Halts (Body x) l rest) (sym same) h
+pub body_none : (w v : Word) (l rest : List ℕ) → w ≡ v → Halts (Body v) l rest → Halts (Body w) l rest
+body_none w v l rest same h = subst (λ x. Halts (Body x) l rest) (sym same) h
 
 -- the form of a word and of what follows it
 pub record Made (w : Word) (t : List ℕ) : Type 0 where

@@ -23,9 +23,9 @@ many_length text [] = omega arith
 many_length text (x ∷ xs) = omega (arith, many_length text xs, length-append (text x) (flat_map (λ y. 32 ∷ text y) xs))
 
 -- the same, where the first has no blank before it
-spaced-length : (ns : List ℕ) → length ns ≤ length (spaced ns) + 1
-spaced-length [] = omega arith
-spaced-length (n ∷ ns) = omega (arith, many_length decimal ns, length-append (decimal n) (numbers ns))
+spaced_length : (ns : List ℕ) → length ns ≤ length (spaced ns) + 1
+spaced_length [] = omega arith
+spaced_length (n ∷ ns) = omega (arith, many_length decimal ns, length-append (decimal n) (numbers ns))
 
 -- a cursor over pairs holds them
 pub pairs_held : (c : PairItems) → length c.text.now ≤ 4096 → Pairs c.text.now → (xs : List (ℕ × ℤ)) × HoldsPairs xs c
@@ -43,7 +43,7 @@ arcs_held c len (ns, h, e) = (ns, record { few = omega (arith, many_length decim
 pub routes_held : (c : NumberItems) (t : List ℕ) → length c.text.now ≤ 4096 → Listed t → c.text.now ≡ 40 ∷ t → (ns : List ℕ) × HoldsNumbers ns c × (c.text.now ≡ codes "(" ++ (spaced ns ++ codes "))"))
 routes_held c t len (ns, h, e) f =
     let whole : c.text.now ≡ 40 ∷ (spaced ns ++ codes "))") = f ∙ ap (λ x. 40 ∷ x) e in
-    (ns, record { few = omega (arith, spaced-length ns, length-append (spaced ns) (codes "))"), ap length whole); short = h; after = codes ")"; ends = inr refl; written = inl whole }, whole)
+    (ns, record { few = omega (arith, spaced_length ns, length-append (spaced ns) (codes "))"), ap length whole); short = h; after = codes ")"; ends = inr refl; written = inl whole }, whole)
 
 -- a form with routes, and one with a limit and entries
 pub once_said : (w : Word) (l : List ℕ) (c : NumberItems) → w ≡ word.Once → length l ≤ 4096 → (t : List ℕ) × Listed t × (c.text.now ≡ 40 ∷ t) × (l ≡ 32 ∷ c.text.now) → Says (headed w l) (read.Once c)

@@ -49,9 +49,9 @@ module _ {X : Type 0} {text : X → List ℕ} {ok : X → Type 0} {tight : X →
 
   module _ (l₀ l : List ℕ) (g : Goes (Many text ok (41 ∷ z)) l₀ l) where
     -- a blank and a text
-    pub goes-more : (x : X) (l₁ l₂ : List ℕ) → l ≡ 32 ∷ l₁ → ok x × (l₁ ≡ text x ++ l₂) × tight x l₂ → Goes (Many text ok (41 ∷ z)) l₀ l₂
+    pub goes_more : (x : X) (l₁ l₂ : List ℕ) → l ≡ 32 ∷ l₁ → ok x × (l₁ ≡ text x ++ l₂) × tight x l₂ → Goes (Many text ok (41 ∷ z)) l₀ l₂
     unfolding Turn
-    goes-more x l₁ l₂ e h = record {
+    goes_more x l₁ l₂ e h = record {
       halts = λ r s. g.halts r (as_many (either_left 32 41 _ (Is z) l l₁ r (λ q. omega arith) e (piece_some told (λ _. many_follows) x h s)));
       whole = λ m. g.whole (turn_in _ (inl (l₁, (x, l₂, h.0, m, h.1), e)));
     }
@@ -62,24 +62,24 @@ module _ {X : Type 0} {text : X → List ℕ} {ok : X → Type 0} {tight : X →
     at_item l₁ rest e h = g.halts rest (as_many (either_left 32 41 _ (Is z) l l₁ rest (λ q. omega arith) e (piece_none told (λ _. many_follows) h)))
 
     -- neither a blank nor the bracket
-    pub at-neither : (ahead l ≡ 32 → ⊥) → (ahead l ≡ 41 → ⊥) → Halts (Many text ok (41 ∷ z)) l₀ l
+    pub at_neither : (ahead l ≡ 32 → ⊥) → (ahead l ≡ 41 → ⊥) → Halts (Many text ok (41 ∷ z)) l₀ l
     unfolding Turn
-    at-neither a b = g.halts l (as_many (either_none 32 41 _ (Is z) l (_, (some.0, _, some.1, many_follows.live.1, refl)) a b))
+    at_neither a b = g.halts l (as_many (either_none 32 41 _ (Is z) l (_, (some.0, _, some.1, many_follows.live.1, refl)) a b))
 
     -- the bracket, and then not z
-    pub at-broken : (l₁ rest : List ℕ) → l ≡ 41 ∷ l₁ → Halts (Is z) l₁ rest → Halts (Many text ok (41 ∷ z)) l₀ rest
+    pub at_broken : (l₁ rest : List ℕ) → l ≡ 41 ∷ l₁ → Halts (Is z) l₁ rest → Halts (Many text ok (41 ∷ z)) l₀ rest
     unfolding Turn
-    at-broken l₁ rest e h = g.halts rest (as_many (either_right 32 41 _ (Is z) l l₁ rest (λ q. omega arith) e h))
+    at_broken l₁ rest e h = g.halts rest (as_many (either_right 32 41 _ (Is z) l l₁ rest (λ q. omega arith) e h))
 
     -- the bracket, and then z
-    pub at-whole : (l₁ : List ℕ) → l ≡ 41 ∷ l₁ → l₁ ≡ z → Many text ok (41 ∷ z) l₀
+    pub at_whole : (l₁ : List ℕ) → l ≡ 41 ∷ l₁ → l₁ ≡ z → Many text ok (41 ∷ z) l₀
     unfolding Turn
-    at-whole l₁ e h = g.whole (turn_in _ (inr (l₁, h, e)))
+    at_whole l₁ e h = g.whole (turn_in _ (inr (l₁, h, e)))
 
     -- the bracket, and what is read after it
     pub at_bracket : {A : Type 0} (o : Option A) (l₁ rest : List ℕ) → l ≡ 41 ∷ l₁ → Ends (Is z) l₁ o rest → Ends (Many text ok (41 ∷ z)) l₀ o rest
-    at_bracket None l₁ rest e h = at-broken l₁ rest e h
-    at_bracket (Some a) l₁ rest e h = at-whole l₁ e h
+    at_bracket None l₁ rest e h = at_broken l₁ rest e h
+    at_bracket (Some a) l₁ rest e h = at_whole l₁ e h
 
     -- the text gets shorter at each item
     pub shorter : (x : X) (l₁ l₂ : List ℕ) → l ≡ 32 ∷ l₁ → l₁ ≡ text x ++ l₂ → length l₂ < length l
@@ -94,8 +94,8 @@ pub some_pair : (x : ℕ × ℤ) × ShortPair x
 some_pair = ((0, pos 0), (omega arith, omega arith))
 
 -- some triple
-pub some-triple : (x : ℕ × ℕ × ℤ) × ShortTriple x
-some-triple = ((0, 0, pos 0), (omega arith, omega arith, omega arith))
+pub some_triple : (x : ℕ × ℕ × ℤ) × ShortTriple x
+some_triple = ((0, 0, pos 0), (omega arith, omega arith, omega arith))
 
 -- the whole list
 abbrev First : List ℕ → Type 0

@@ -21,12 +21,12 @@ pub number_live : (N : List ℕ → Type 0) → Live N → Live (Piece decimal S
 number_live N (t, n) = (decimal 0 ++ t, (0, t, omega arith, n, refl))
 
 -- no digit is next
-number-none : (N : List ℕ → Type 0) (l : List ℕ) → Live N → Open l → Halts (Piece decimal Short (λ _. N)) l l
-number-none N l live bar = halt_now _ l (number_live N live) (λ t like m. bar (subst Digit like (subst (λ x. Digit (ahead x)) (sym m.4) (leading m.0 m.1 m.2))))
+number_none : (N : List ℕ → Type 0) (l : List ℕ) → Live N → Open l → Halts (Piece decimal Short (λ _. N)) l l
+number_none N l live bar = halt_now _ l (number_live N live) (λ t like m. bar (subst Digit like (subst (λ x. Digit (ahead x)) (sym m.4) (leading m.0 m.1 m.2))))
 
 -- what `number` answers where there is none
 pub number_halts : {l rest : List ℕ} → (rest ≡ l) × Open l → Halts (Piece decimal Short (λ _. Open)) l rest
-number_halts {l} {rest} (same, bar) = subst (Halts (Piece decimal Short (λ _. Open)) l) (sym same) (number-none Open l open_follows.live bar)
+number_halts {l} {rest} (same, bar) = subst (Halts (Piece decimal Short (λ _. Open)) l) (sym same) (number_none Open l open_follows.live bar)
 
 -- a signed number
 pub signed_told : Told signed_decimal ShortZ TightZ
@@ -53,8 +53,8 @@ signed_none N l rest minus h = halt_wider (Piece decimal Short (λ _. N)) (Piece
     only t like (negsuc n, u, short, m, e) = absurd (minus (sym like ∙ ap ahead e))
 
 -- a minus, and then no digit from 1 to 9
-pub minus-none : (N : List ℕ → Type 0) (l l₁ : List ℕ) → Live N → l ≡ 45 ∷ l₁ → (49 ≤ ahead l₁ → ahead l₁ ≤ 57 → ⊥) → Halts (Piece signed_decimal ShortZ (λ _. N)) l l₁
-minus-none N l l₁ live e bar = subst (λ x. Halts Signed x l₁) (sym e) (halt_after Signed After (45 ∷ []) l₁ l₁ (halt_now After l₁ (decimal 1 ++ live.0, (negsuc 0, live.0, omega arith, live.1, refl)) stuck) (λ t m. m) (λ t like m. m))
+pub minus_none : (N : List ℕ → Type 0) (l l₁ : List ℕ) → Live N → l ≡ 45 ∷ l₁ → (49 ≤ ahead l₁ → ahead l₁ ≤ 57 → ⊥) → Halts (Piece signed_decimal ShortZ (λ _. N)) l l₁
+minus_none N l l₁ live e bar = subst (λ x. Halts Signed x l₁) (sym e) (halt_after Signed After (45 ∷ []) l₁ l₁ (halt_now After l₁ (decimal 1 ++ live.0, (negsuc 0, live.0, omega arith, live.1, refl)) stuck) (λ t m. m) (λ t like m. m))
   where
     Signed : List ℕ → Type 0
     Signed = Piece signed_decimal ShortZ (λ _. N)
@@ -93,8 +93,8 @@ item_takes None l l₁ rest e h = as_item Open (byte_some e (number_halts h))
 item_takes (Some n) l l₁ rest e (short, f, tight) = (short, e ∙ ap (λ x. 32 ∷ x) f, tight)
 
 -- an amount
-amount-text : (z : ℤ) (u : List ℕ) → amount z ++ u ≡ 32 ∷ (signed_decimal z ++ (41 ∷ u))
-amount-text z u = ap (λ t. 32 ∷ t) (append_assoc (signed_decimal z) (41 ∷ []) u)
+amount_text : (z : ℤ) (u : List ℕ) → amount z ++ u ≡ 32 ∷ (signed_decimal z ++ (41 ∷ u))
+amount_text z u = ap (λ t. 32 ∷ t) (append_assoc (signed_decimal z) (41 ∷ []) u)
 
 -- no digit follows where the bracket does
 tight_close : (z : ℤ) (t : List ℕ) → TightZ z (41 ∷ t)
@@ -107,7 +107,7 @@ amount_told_lem = record { once = one; like = λ x l t like f. f; loose = λ x l
   where
     one : (y z : ℤ) (u t : List ℕ) → ShortZ y → ShortZ z → Open u → Free z t → amount y ++ u ≡ amount z ++ t → (y ≡ z) × (u ≡ t)
     one y z u t hy hz bare f e =
-        let o = once_signed y z (41 ∷ u) (41 ∷ t) hy hz (λ d. omega arith) (tight_close z t) (tail 32 _ _ (sym (amount-text y u) ∙ e ∙ amount-text z t)) in
+        let o = once_signed y z (41 ∷ u) (41 ∷ t) hy hz (λ d. omega arith) (tight_close z t) (tail 32 _ _ (sym (amount_text y u) ∙ e ∙ amount_text z t)) in
         (o.0, tail 41 _ _ o.1)
 
 -- an amount, and then a text of N
@@ -123,10 +123,10 @@ pub as_amount : (N : List ℕ → Type 0) {l rest : List ℕ} → Halts (Byte 32
 as_amount N {l} {rest} h = halt_wider (Byte 32 (Piece signed_decimal ShortZ (λ _. Byte 41 N))) (Amount N) l rest into (λ t like m. out t m) h
   where
     into : (t : List ℕ) → Byte 32 (Piece signed_decimal ShortZ (λ _. Byte 41 N)) t → Amount N t
-    into t (a, (z, b, h, (u, m, e₃), e₂), e₁) = (z, u, h, m, e₁ ∙ ap (λ x. 32 ∷ x) (e₂ ∙ ap (λ x. signed_decimal z ++ x) e₃) ∙ sym (amount-text z u))
+    into t (a, (z, b, h, (u, m, e₃), e₂), e₁) = (z, u, h, m, e₁ ∙ ap (λ x. 32 ∷ x) (e₂ ∙ ap (λ x. signed_decimal z ++ x) e₃) ∙ sym (amount_text z u))
 
     out : (t : List ℕ) → Amount N t → Byte 32 (Piece signed_decimal ShortZ (λ _. Byte 41 N)) t
-    out t (z, u, h, m, e) = (_, (z, _, h, (u, m, refl), refl), e ∙ amount-text z u)
+    out t (z, u, h, m, e) = (_, (z, _, h, (u, m, refl), refl), e ∙ amount_text z u)
 
 -- a signed number that is handed on
 pub back : (z : ℤ) → ShortZ z → to_z w64 (of_z w64 z) ≡ z
@@ -137,11 +137,11 @@ back (negsuc n) h = to_z-of_z w64 (negsuc n) (record { sfits = omega arith })
 pub amount_whole : (z : ℤ) (l l₁ l₂ l₃ : List ℕ) → l ≡ 32 ∷ l₁ → ShortZ z × (l₁ ≡ signed_decimal z ++ l₂) × TightZ z l₂ → l₂ ≡ 41 ∷ l₃ → Takes amount ShortZ Free l (Some (to_z w64 (of_z w64 z))) l₃
 amount_whole z l l₁ l₂ l₃ e₁ (h, e₂, _) e₃ =
     let P : ℤ → Type 0 = λ y. ShortZ y × (l ≡ amount y ++ l₃) × Unit {0} in
-    subst P (sym (back z h)) (h, e₁ ∙ ap (λ x. 32 ∷ x) (e₂ ∙ ap (λ x. signed_decimal z ++ x) e₃) ∙ sym (amount-text z l₃), tt)
+    subst P (sym (back z h)) (h, e₁ ∙ ap (λ x. 32 ∷ x) (e₂ ∙ ap (λ x. signed_decimal z ++ x) e₃) ∙ sym (amount_text z l₃), tt)
 
 -- a pair
-pub pair-text : (n : ℕ) (z : ℤ) (u : List ℕ) → pair (n, z) ++ u ≡ 40 ∷ (decimal n ++ (amount z ++ u))
-pair-text n z u = ap (λ t. 40 ∷ t) (append_assoc (decimal n) (amount z) u)
+pub pair_text : (n : ℕ) (z : ℤ) (u : List ℕ) → pair (n, z) ++ u ≡ 40 ∷ (decimal n ++ (amount z ++ u))
+pair_text n z u = ap (λ t. 40 ∷ t) (append_assoc (decimal n) (amount z) u)
 
 -- a text begins with one pair
 pub pair_told : Told pair ShortPair Free
@@ -149,7 +149,7 @@ pair_told = record { once = one; like = λ x l t like f. f; loose = λ x l o. tt
   where
     one : (x y : ℕ × ℤ) (u t : List ℕ) → ShortPair x → ShortPair y → Open u → Free y t → pair x ++ u ≡ pair y ++ t → (x ≡ y) × (u ≡ t)
     one (m, y) (n, z) u t (hm, hy) (hn, hz) bare f e =
-        let a = once m n (amount y ++ u) (amount z ++ t) hm hn (λ d. omega arith) (λ d. absurd (omega arith)) (tail 40 _ _ (sym (pair-text m y u) ∙ e ∙ pair-text n z t)) in
+        let a = once m n (amount y ++ u) (amount z ++ t) hm hn (λ d. omega arith) (λ d. absurd (omega arith)) (tail 40 _ _ (sym (pair_text m y u) ∙ e ∙ pair_text n z t)) in
         let b = amount_told_lem.once y z u t hy hz bare tt a.1 in
         ((λ i. (a.0 i, b.0 i)), b.1)
 
@@ -158,20 +158,20 @@ pub as_pair : (N : List ℕ → Type 0) {l rest : List ℕ} → Halts (Byte 40 (
 as_pair N {l} {rest} h = halt_wider (Byte 40 (Piece decimal Short (λ _. Amount N))) (Piece pair ShortPair (λ _. N)) l rest into (λ t like m. out t m) h
   where
     into : (t : List ℕ) → Byte 40 (Piece decimal Short (λ _. Amount N)) t → Piece pair ShortPair (λ _. N) t
-    into t (a, (n, b, hn, (z, u, hz, m, e₃), e₂), e₁) = ((n, z), u, (hn, hz), m, e₁ ∙ ap (λ x. 40 ∷ x) (e₂ ∙ ap (λ x. decimal n ++ x) e₃) ∙ sym (pair-text n z u))
+    into t (a, (n, b, hn, (z, u, hz, m, e₃), e₂), e₁) = ((n, z), u, (hn, hz), m, e₁ ∙ ap (λ x. 40 ∷ x) (e₂ ∙ ap (λ x. decimal n ++ x) e₃) ∙ sym (pair_text n z u))
 
     out : (t : List ℕ) → Piece pair ShortPair (λ _. N) t → Byte 40 (Piece decimal Short (λ _. Amount N)) t
-    out t ((n, z), u, (hn, hz), m, e) = (_, (n, _, hn, (z, u, hz, m, refl), refl), e ∙ pair-text n z u)
+    out t ((n, z), u, (hn, hz), m, e) = (_, (n, _, hn, (z, u, hz, m, refl), refl), e ∙ pair_text n z u)
 
 -- what `pair` answers
 pub pair_whole : (n : ℕ) (z : ℤ) (l l₁ l₂ l₃ : List ℕ) → l ≡ 40 ∷ l₁ → Short n × (l₁ ≡ decimal n ++ l₂) × Tight n l₂ → ShortZ z × (l₂ ≡ amount z ++ l₃) × Free z l₃ → Takes pair ShortPair Free l (Some (n, to_z w64 (of_z w64 z))) l₃
 pair_whole n z l l₁ l₂ l₃ e₁ (hn, e₂, _) (hz, e₃, _) =
     let P : ℤ → Type 0 = λ y. ShortPair (n, y) × (l ≡ pair (n, y) ++ l₃) × Unit {0} in
-    subst P (sym (back z hz)) ((hn, hz), e₁ ∙ ap (λ x. 40 ∷ x) (e₂ ∙ ap (λ x. decimal n ++ x) e₃) ∙ sym (pair-text n z l₃), tt)
+    subst P (sym (back z hz)) ((hn, hz), e₁ ∙ ap (λ x. 40 ∷ x) (e₂ ∙ ap (λ x. decimal n ++ x) e₃) ∙ sym (pair_text n z l₃), tt)
 
 -- a triple
-pub triple-text : (m n : ℕ) (z : ℤ) (u : List ℕ) → triple (m, n, z) ++ u ≡ 40 ∷ (decimal m ++ (number n ++ (amount z ++ u)))
-triple-text m n z u = ap (λ t. 40 ∷ t) (append_assoc (decimal m) (number n ++ amount z) u ∙ ap (λ t. decimal m ++ t) (append_assoc (number n) (amount z) u))
+pub triple_text : (m n : ℕ) (z : ℤ) (u : List ℕ) → triple (m, n, z) ++ u ≡ 40 ∷ (decimal m ++ (number n ++ (amount z ++ u)))
+triple_text m n z u = ap (λ t. 40 ∷ t) (append_assoc (decimal m) (number n ++ amount z) u ∙ ap (λ t. decimal m ++ t) (append_assoc (number n) (amount z) u))
 
 -- a text begins with one triple
 pub triple_told : Told triple ShortTriple Free
@@ -179,7 +179,7 @@ triple_told = record { once = one; like = λ x l t like f. f; loose = λ x l o. 
   where
     one : (x y : ℕ × ℕ × ℤ) (u t : List ℕ) → ShortTriple x → ShortTriple y → Open u → Free y t → triple x ++ u ≡ triple y ++ t → (x ≡ y) × (u ≡ t)
     one (m, m', y) (n, n', z) u t (hm, hm', hy) (hn, hn', hz) bare f e =
-        let a = once m n (number m' ++ (amount y ++ u)) (number n' ++ (amount z ++ t)) hm hn (λ d. omega arith) (λ d. absurd (omega arith)) (tail 40 _ _ (sym (triple-text m m' y u) ∙ e ∙ triple-text n n' z t)) in
+        let a = once m n (number m' ++ (amount y ++ u)) (number n' ++ (amount z ++ t)) hm hn (λ d. omega arith) (λ d. absurd (omega arith)) (tail 40 _ _ (sym (triple_text m m' y u) ∙ e ∙ triple_text n n' z t)) in
         let b = item_told.once m' n' (amount y ++ u) (amount z ++ t) hm' hn' (λ d. omega arith) (λ d. absurd (omega arith)) a.1 in
         let c = amount_told_lem.once y z u t hy hz bare tt b.1 in
         ((λ i. (a.0 i, b.0 i, c.0 i)), c.1)
@@ -189,13 +189,13 @@ pub as_triple : (N : List ℕ → Type 0) {l rest : List ℕ} → Halts (Byte 40
 as_triple N {l} {rest} h = halt_wider (Byte 40 (Piece decimal Short (λ _. Item (Amount N)))) (Piece triple ShortTriple (λ _. N)) l rest into (λ t like m. out t m) h
   where
     into : (t : List ℕ) → Byte 40 (Piece decimal Short (λ _. Item (Amount N))) t → Piece triple ShortTriple (λ _. N) t
-    into t (a, (m, b, hm, (n, c, hn, (z, u, hz, q, e₄), e₃), e₂), e₁) = ((m, n, z), u, (hm, hn, hz), q, e₁ ∙ ap (λ x. 40 ∷ x) (e₂ ∙ ap (λ x. decimal m ++ x) (e₃ ∙ ap (λ x. number n ++ x) e₄)) ∙ sym (triple-text m n z u))
+    into t (a, (m, b, hm, (n, c, hn, (z, u, hz, q, e₄), e₃), e₂), e₁) = ((m, n, z), u, (hm, hn, hz), q, e₁ ∙ ap (λ x. 40 ∷ x) (e₂ ∙ ap (λ x. decimal m ++ x) (e₃ ∙ ap (λ x. number n ++ x) e₄)) ∙ sym (triple_text m n z u))
 
     out : (t : List ℕ) → Piece triple ShortTriple (λ _. N) t → Byte 40 (Piece decimal Short (λ _. Item (Amount N))) t
-    out t ((m, n, z), u, (hm, hn, hz), q, e) = (_, (m, _, hm, (n, _, hn, (z, u, hz, q, refl), refl), refl), e ∙ triple-text m n z u)
+    out t ((m, n, z), u, (hm, hn, hz), q, e) = (_, (m, _, hm, (n, _, hn, (z, u, hz, q, refl), refl), refl), e ∙ triple_text m n z u)
 
 -- what `triple` answers
 pub triple_whole : (m n : ℕ) (z : ℤ) (l l₁ l₂ l₃ l₄ : List ℕ) → l ≡ 40 ∷ l₁ → Short m × (l₁ ≡ decimal m ++ l₂) × Tight m l₂ → Short n × (l₂ ≡ number n ++ l₃) × Tight n l₃ → ShortZ z × (l₃ ≡ amount z ++ l₄) × Free z l₄ → Takes triple ShortTriple Free l (Some (m, n, to_z w64 (of_z w64 z))) l₄
 triple_whole m n z l l₁ l₂ l₃ l₄ e₁ (hm, e₂, _) (hn, e₃, _) (hz, e₄, _) =
     let P : ℤ → Type 0 = λ y. ShortTriple (m, n, y) × (l ≡ triple (m, n, y) ++ l₄) × Unit {0} in
-    subst P (sym (back z hz)) ((hm, hn, hz), e₁ ∙ ap (λ x. 40 ∷ x) (e₂ ∙ ap (λ x. decimal m ++ x) (e₃ ∙ ap (λ x. number n ++ x) e₄)) ∙ sym (triple-text m n z l₄), tt)
+    subst P (sym (back z hz)) ((hm, hn, hz), e₁ ∙ ap (λ x. 40 ∷ x) (e₂ ∙ ap (λ x. decimal m ++ x) (e₃ ∙ ap (λ x. number n ++ x) e₄)) ∙ sym (triple_text m n z l₄), tt)

@@ -82,24 +82,24 @@ same_made word.Offer t p q = ap Offer (many_same number_told [] t t refl p q)
 same_made word.Verdict t p q = refl
 
 -- a form's parts make the form
-made-parts : (f : Form) (h : Proper f) → (made (parts f h).first (parts f h).rest (parts f h).items).form ≡ f
+made_parts : (f : Form) (h : Proper f) → (made (parts f h).first (parts f h).rest (parts f h).items).form ≡ f
 unfolding made parts Body
-made-parts Casebook h = refl
-made-parts (Places n) h = refl
-made-parts (Arc a) h = refl
-made-parts (Once ns) h = refl
-made-parts (Order a b) h = refl
-made-parts (Budget z xs) h = refl
-made-parts Seal h = refl
-made-parts (Claim n) h = refl
-made-parts (Price xs) h = refl
-made-parts Sample h = refl
-made-parts (Strike xs) h = refl
-made-parts Trim h = refl
-made-parts (Split p ns) h = refl
-made-parts (Close xs) h = refl
-made-parts (Offer ns) h = refl
-made-parts Verdict h = refl
+made_parts Casebook h = refl
+made_parts (Places n) h = refl
+made_parts (Arc a) h = refl
+made_parts (Once ns) h = refl
+made_parts (Order a b) h = refl
+made_parts (Budget z xs) h = refl
+made_parts Seal h = refl
+made_parts (Claim n) h = refl
+made_parts (Price xs) h = refl
+made_parts Sample h = refl
+made_parts (Strike xs) h = refl
+made_parts Trim h = refl
+made_parts (Split p ns) h = refl
+made_parts (Close xs) h = refl
+made_parts (Offer ns) h = refl
+made_parts Verdict h = refl
 
 -- forms with one word and one text after it are one
 same_parts : (w v : Word) (s t : List ℕ) (p : Body w s) (q : Body v t) → w ≡ v → s ≡ t → (made w s p).form ≡ (made v t q).form
@@ -118,7 +118,7 @@ one_form f g h k e =
     let p = parts f h in
     let q = parts g k in
     let o = word_told.once p.first q.first p.rest q.rest tt tt ((body p.first).un p.rest p.items) tt (tail 40 _ _ (sym p.whole ∙ e ∙ q.whole)) in
-    sym (made-parts f h) ∙ same_parts p.first q.first p.rest q.rest p.items q.items o.0 o.1 ∙ made-parts g k
+    sym (made_parts f h) ∙ same_parts p.first q.first p.rest q.rest p.items q.items o.0 o.1 ∙ made_parts g k
 
 -- a form begins with each of its fronts
 begins_front : (l : List ℕ) (k : ℕ) → Formed l → Begins (take k l)

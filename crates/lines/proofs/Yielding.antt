@@ -31,8 +31,8 @@ next_many : {X : Type 0} (text : X → List ℕ) (x : X) (xs : List X) (z t l : 
 next_many text x xs z t l e f = f ∙ ap (drop 1) e ∙ append_assoc (text x) (flat_map (λ y. 32 ∷ text y) xs) z
 
 -- numbers
-next-number : (n : ℕ) (ns : List ℕ) (c : NumberItems) (h : HoldsNumbers (n ∷ ns) c) (l : List ℕ) → l ≡ drop 1 c.text.now → l ≡ decimal n ++ (numbers ns ++ (41 ∷ h.after))
-next-number n ns c h l f = go h.written
+next_number : (n : ℕ) (ns : List ℕ) (c : NumberItems) (h : HoldsNumbers (n ∷ ns) c) (l : List ℕ) → l ≡ drop 1 c.text.now → l ≡ decimal n ++ (numbers ns ++ (41 ∷ h.after))
+next_number n ns c h l f = go h.written
   where
     z : List ℕ
     z = 41 ∷ h.after
@@ -42,13 +42,13 @@ next-number n ns c h l f = go h.written
     go (inr e) = next_many decimal n ns (41 ∷ h.after) c.text.now l e f
 
 -- no number is read: there is none
-pub number-none : (ns : List ℕ) (c : NumberItems) (l rest : List ℕ) → HoldsNumbers ns c → l ≡ drop 1 c.text.now → Halts (Piece decimal Short (λ _. Open)) l rest → Splits HoldsNumbers ns None
-number-none [] c l rest h f s = refl
-number-none (n ∷ ns) c l rest h f s = absurd (there number_told n ns h.after l h.short.0 (next-number n ns c h l f) rest s)
+pub number_none : (ns : List ℕ) (c : NumberItems) (l rest : List ℕ) → HoldsNumbers ns c → l ≡ drop 1 c.text.now → Halts (Piece decimal Short (λ _. Open)) l rest → Splits HoldsNumbers ns None
+number_none [] c l rest h f s = refl
+number_none (n ∷ ns) c l rest h f s = absurd (there number_told n ns h.after l h.short.0 (next_number n ns c h l f) rest s)
 
 -- a number is read: it is the first
-pub number-some : (ns : List ℕ) (c d : NumberItems) (l : List ℕ) (m : ℕ) → HoldsNumbers ns c → l ≡ drop 1 c.text.now → Short m × (l ≡ decimal m ++ d.text.now) × Tight m d.text.now → Splits HoldsNumbers ns (Some (m, d))
-number-some [] c d l m h f (short, e, tight) = absurd (go h.written h.ends)
+pub number_some : (ns : List ℕ) (c d : NumberItems) (l : List ℕ) (m : ℕ) → HoldsNumbers ns c → l ≡ drop 1 c.text.now → Short m × (l ≡ decimal m ++ d.text.now) × Tight m d.text.now → Splits HoldsNumbers ns (Some (m, d))
+number_some [] c d l m h f (short, e, tight) = absurd (go h.written h.ends)
   where
     first : Digit (ahead (decimal m ++ d.text.now))
     first = leading m d.text.now short
@@ -57,30 +57,30 @@ number-some [] c d l m h f (short, e, tight) = absurd (go h.written h.ends)
     go (inl w) _ = omega (arith, first, ap ahead (sym e ∙ f ∙ ap (drop 1) w))
     go (inr w) (inl z) = omega (arith, first, ap ahead (sym e ∙ f ∙ ap (drop 1) w ∙ z))
     go (inr w) (inr z) = omega (arith, first, ap ahead (sym e ∙ f ∙ ap (drop 1) w ∙ z))
-number-some (n ∷ ns) c d l m h f r =
-    let o = same number_told n ns h.after l h.short.0 (next-number n ns c h l f) m d.text.now r in
+number_some (n ∷ ns) c d l m h f r =
+    let o = same number_told n ns h.after l h.short.0 (next_number n ns c h l f) m d.text.now r in
     record { others = ns; order = ap (λ x. x ∷ ns) (sym o.0); held = record { few = omega (arith, h.few); short = h.short.1; after = h.after; ends = h.ends; written = inr o.1 } }
 
 -- pairs
-pub pair-none : (xs : List (ℕ × ℤ)) (c : PairItems) (l rest : List ℕ) → HoldsPairs xs c → l ≡ drop 1 c.text.now → Halts (Piece pair ShortPair (λ _. Open)) l rest → Splits HoldsPairs xs None
-pair-none [] c l rest h f s = refl
-pair-none (x ∷ xs) c l rest h f s = absurd (there pair_told x xs [] l h.short.0 (next_many pair x xs (codes ")") c.text.now l h.written f) rest s)
+pub pair_none : (xs : List (ℕ × ℤ)) (c : PairItems) (l rest : List ℕ) → HoldsPairs xs c → l ≡ drop 1 c.text.now → Halts (Piece pair ShortPair (λ _. Open)) l rest → Splits HoldsPairs xs None
+pair_none [] c l rest h f s = refl
+pair_none (x ∷ xs) c l rest h f s = absurd (there pair_told x xs [] l h.short.0 (next_many pair x xs (codes ")") c.text.now l h.written f) rest s)
 
 -- a pair is read: it is the first
-pub pair-some : (xs : List (ℕ × ℤ)) (c d : PairItems) (l : List ℕ) (y : ℕ × ℤ) → HoldsPairs xs c → l ≡ drop 1 c.text.now → ShortPair y × (l ≡ pair y ++ d.text.now) × Free y d.text.now → Splits HoldsPairs xs (Some (y, d))
-pair-some [] c d l y h f (short, e, _) = absurd (omega (arith, ap length (sym e ∙ f ∙ ap (drop 1) h.written)))
-pair-some (x ∷ xs) c d l y h f r =
+pub pair_some : (xs : List (ℕ × ℤ)) (c d : PairItems) (l : List ℕ) (y : ℕ × ℤ) → HoldsPairs xs c → l ≡ drop 1 c.text.now → ShortPair y × (l ≡ pair y ++ d.text.now) × Free y d.text.now → Splits HoldsPairs xs (Some (y, d))
+pair_some [] c d l y h f (short, e, _) = absurd (omega (arith, ap length (sym e ∙ f ∙ ap (drop 1) h.written)))
+pair_some (x ∷ xs) c d l y h f r =
     let o = same pair_told x xs [] l h.short.0 (next_many pair x xs (codes ")") c.text.now l h.written f) y d.text.now r in
     record { others = xs; order = ap (λ q. q ∷ xs) (sym o.0); held = record { few = omega (arith, h.few); short = h.short.1; written = o.1 } }
 
 -- triples
-pub triple-none : (xs : List (ℕ × ℕ × ℤ)) (c : TripleItems) (l rest : List ℕ) → HoldsTriples xs c → l ≡ drop 1 c.text.now → Halts (Piece triple ShortTriple (λ _. Open)) l rest → Splits HoldsTriples xs None
-triple-none [] c l rest h f s = refl
-triple-none (x ∷ xs) c l rest h f s = absurd (there triple_told x xs [] l h.short.0 (next_many triple x xs (codes ")") c.text.now l h.written f) rest s)
+pub triple_none : (xs : List (ℕ × ℕ × ℤ)) (c : TripleItems) (l rest : List ℕ) → HoldsTriples xs c → l ≡ drop 1 c.text.now → Halts (Piece triple ShortTriple (λ _. Open)) l rest → Splits HoldsTriples xs None
+triple_none [] c l rest h f s = refl
+triple_none (x ∷ xs) c l rest h f s = absurd (there triple_told x xs [] l h.short.0 (next_many triple x xs (codes ")") c.text.now l h.written f) rest s)
 
 -- a triple is read: it is the first
-pub triple-some : (xs : List (ℕ × ℕ × ℤ)) (c d : TripleItems) (l : List ℕ) (y : ℕ × ℕ × ℤ) → HoldsTriples xs c → l ≡ drop 1 c.text.now → ShortTriple y × (l ≡ triple y ++ d.text.now) × Free y d.text.now → Splits HoldsTriples xs (Some (y, d))
-triple-some [] c d l y h f (short, e, _) = absurd (omega (arith, ap length (sym e ∙ f ∙ ap (drop 1) h.written)))
-triple-some (x ∷ xs) c d l y h f r =
+pub triple_some : (xs : List (ℕ × ℕ × ℤ)) (c d : TripleItems) (l : List ℕ) (y : ℕ × ℕ × ℤ) → HoldsTriples xs c → l ≡ drop 1 c.text.now → ShortTriple y × (l ≡ triple y ++ d.text.now) × Free y d.text.now → Splits HoldsTriples xs (Some (y, d))
+triple_some [] c d l y h f (short, e, _) = absurd (omega (arith, ap length (sym e ∙ f ∙ ap (drop 1) h.written)))
+triple_some (x ∷ xs) c d l y h f r =
     let o = same triple_told x xs [] l h.short.0 (next_many triple x xs (codes ")") c.text.now l h.written f) y d.text.now r in
     record { others = xs; order = ap (λ q. q ∷ xs) (sym o.0); held = record { few = omega (arith, h.few); short = h.short.1; written = o.1 } }

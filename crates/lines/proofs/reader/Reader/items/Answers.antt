@@ -4,42 +4,42 @@ use Rattle.lines.specs.declared.word.Word.TheVariants as word
 use Rattle.lines.specs.Forms.{Casebook, Places, Arc, Order, Seal, Claim, Price, Sample, Strike, Trim, Close, Offer, Verdict}
 use Rattle.lines.specs.Texts.{Pairs, Numbers}
 use Rattle.lines.specs.Words.{Ending, Body, headed}
-use Rattle.lines.proofs.Forming.{after, body-none}
+use Rattle.lines.proofs.Forming.{after, body_none}
 use Rattle.lines.proofs.Holding.{pairs_held, arcs_held, kept_said, once_said, budget_said, split_said}
 use Rattle.lines.proofs.reader.Reader.items.Goals as goal
 
 -- the items break off
 pub returns-in_err-header-in-Casebook : goal.returns-in_err-header-in-Casebook
 unfolding Body
-returns-in_err-header-in-Casebook c = rw c.from_residual.ensures (body-none _ word.Casebook _ _ c.in-Casebook.is c.in_err-header-in-Casebook.ensures)
+returns-in_err-header-in-Casebook c = rw c.from_residual.ensures (body_none _ word.Casebook _ _ c.in-Casebook.is c.in_err-header-in-Casebook.ensures)
 
 pub returns-in_err-one-in-Places : goal.returns-in_err-one-in-Places
 unfolding Body
-returns-in_err-one-in-Places c = rw c.from_residual-in_err-one-in-Places.ensures (body-none _ word.Places _ _ c.in-Places.is c.in_err-one-in-Places.ensures)
+returns-in_err-one-in-Places c = rw c.from_residual-in_err-one-in-Places.ensures (body_none _ word.Places _ _ c.in-Places.is c.in_err-one-in-Places.ensures)
 
 pub returns-in_err-arc-in-Arc : goal.returns-in_err-arc-in-Arc
 unfolding Body
-returns-in_err-arc-in-Arc c = rw c.from_residual-in_err-arc-in-Arc.ensures (body-none _ word.Arc _ _ c.in-Arc.is c.in_err-arc-in-Arc.ensures)
+returns-in_err-arc-in-Arc c = rw c.from_residual-in_err-arc-in-Arc.ensures (body_none _ word.Arc _ _ c.in-Arc.is c.in_err-arc-in-Arc.ensures)
 
 pub returns-in_err-routes-in-Once : goal.returns-in_err-routes-in-Once
 unfolding Body
-returns-in_err-routes-in-Once c = rw c.from_residual-in_err-routes-in-Once.ensures (body-none _ word.Once _ _ c.in-Once.is c.in_err-routes-in-Once.ensures)
+returns-in_err-routes-in-Once c = rw c.from_residual-in_err-routes-in-Once.ensures (body_none _ word.Once _ _ c.in-Once.is c.in_err-routes-in-Once.ensures)
 
 pub returns-in_err-first-in-Order : goal.returns-in_err-first-in-Order
 unfolding Body
-returns-in_err-first-in-Order c = rw c.from_residual-in_err-first-in-Order.ensures (body-none _ word.Order _ _ c.in-Order.is c.in_err-first-in-Order.ensures)
+returns-in_err-first-in-Order c = rw c.from_residual-in_err-first-in-Order.ensures (body_none _ word.Order _ _ c.in-Order.is c.in_err-first-in-Order.ensures)
 
 pub returns-in_err-limit-in-Budget : goal.returns-in_err-limit-in-Budget
 unfolding Body
-returns-in_err-limit-in-Budget c = rw c.from_residual-in_err-limit-in-Budget.ensures (body-none _ word.Budget _ _ c.in-Budget.is c.in_err-limit-in-Budget.ensures)
+returns-in_err-limit-in-Budget c = rw c.from_residual-in_err-limit-in-Budget.ensures (body_none _ word.Budget _ _ c.in-Budget.is c.in_err-limit-in-Budget.ensures)
 
 pub returns-in_err-one-in-Claim : goal.returns-in_err-one-in-Claim
 unfolding Body
-returns-in_err-one-in-Claim c = rw c.from_residual-in_err-one-in-Claim.ensures (body-none _ word.Claim _ _ c.in-Claim.is c.in_err-one-in-Claim.ensures)
+returns-in_err-one-in-Claim c = rw c.from_residual-in_err-one-in-Claim.ensures (body_none _ word.Claim _ _ c.in-Claim.is c.in_err-one-in-Claim.ensures)
 
 pub returns-in_err-place-in-Split : goal.returns-in_err-place-in-Split
 unfolding Body
-returns-in_err-place-in-Split c = rw c.from_residual-in_err-place-in-Split.ensures (body-none _ word.Split _ _ c.in-Split.is c.in_err-place-in-Split.ensures)
+returns-in_err-place-in-Split c = rw c.from_residual-in_err-place-in-Split.ensures (body_none _ word.Split _ _ c.in-Split.is c.in_err-place-in-Split.ensures)
 
 -- the items are there
 pub returns-in_ok-header-in-Casebook : goal.returns-in_ok-header-in-Casebook

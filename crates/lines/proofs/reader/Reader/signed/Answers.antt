@@ -2,12 +2,12 @@ use Rattle.std.proofs.Common.{arith}
 use Rattle.lines.specs.Texts.{Open}
 use Rattle.lines.proofs.Numerals.{stepped, minus}
 use Rattle.lines.proofs.Halting.{open_follows}
-use Rattle.lines.proofs.Pieces.{minus-none, signed_none, number_halts}
+use Rattle.lines.proofs.Pieces.{minus_none, signed_none, number_halts}
 use Rattle.lines.proofs.reader.Reader.signed.Goals as goal
 
 pub returns-then-not-leads : goal.returns-then-not-leads
 returns-then-not-leads c =
-    minus-none Open _ _ open_follows.live (stepped _ _ 45 _ (omega arith) c.peek.ensures c.in-45.is c.skip.ensures)
+    minus_none Open _ _ open_follows.live (stepped _ _ 45 _ (omega arith) c.peek.ensures c.in-45.is c.skip.ensures)
     (λ low high. c.if-not-leads.ensures (omega (arith, c.peek-in-45.ensures)) (omega (arith, c.peek-in-45.ensures)))
 
 pub returns-in_err-n-in_default : goal.returns-in_err-n-in_default
