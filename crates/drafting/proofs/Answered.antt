@@ -1,7 +1,7 @@
 -- A line is answered as its form is, or refused at its first impossible byte. Assumes nothing.
 use Rattle.std.proofs.Common.{◌≡◌, ℕ, ◌<◌, ◌≤◌, true, List, length, Ok, Err, codes, Result, sym, refl, ap, ◌∙◌, inl, inr, arith}
 use Rattle.terms.specs.declared.refusal.Refusal.{Refusal}
-use Rattle.terms.specs.declared.refusal.Refusal.TheVariants.{Grammar, NotHere}
+use Rattle.terms.specs.declared.refusal.Refusal.TheVariants.{Grammar}
 use Rattle.terms.specs.Refusals.{Outcome}
 use Rattle.lines.specs.declared.form.Form.{Form as Read}
 use Rattle.lines.specs.Forms.{Form, Casebook, Places, Arc, Once, Order, Budget, Seal, Claim, Price, Sample, Strike, Trim, Split, Close, Offer, Verdict, text}

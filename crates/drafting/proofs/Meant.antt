@@ -1,15 +1,14 @@
 -- What the items of a form mean. Assumes nothing.
-use Rattle.std.proofs.Common.{◌≡◌, ℕ, ◌^◌, ◌<◌, ◌≤◌, Bool, true, false, cond, ◌&&◌, ◌||◌, eqb, ltb, leb, ◌≢◌, ◌⊎◌, List, [], ◌∷◌, length, get_or, set, replicate, ℤ, pos, sym, refl, ap, ◌∙◌, inl, inr, arith, length-set}
+use Rattle.std.proofs.Common.{◌≡◌, ℕ, ◌<◌, ◌≤◌, Bool, true, false, cond, ◌&&◌, ◌||◌, eqb, leb, ◌≢◌, ◌⊎◌, List, [], ◌∷◌, length, get_or, set, replicate, ℤ, pos, sym, refl, ap, ◌∙◌, inl, inr, arith, length-set}
 use mathlib.Core.Bool.{or-false}
-use lib.Bits.{bit_or}
 use lib.ListN.{length-replicate}
 use Rattle.std.proofs.lemmas.List.{get_or-set_same, get_or-set_other, get_or-replicate}
-use Rattle.std.proofs.lemmas.Bool.{cases_Bool, cases_eq, or_parts, and_parts, not-false, ltb-false, leb-true, le-leb, eq-eqb, ne_eqb, and_right, and_left}
+use Rattle.std.proofs.lemmas.Bool.{cases_eq, or_parts, and_parts, not-false, ltb-false, leb-true, le-leb, eq-eqb, ne_eqb, and_right, and_left}
 use Rattle.terms.specs.Routes.{in_set, with_route}
 use Rattle.terms.proofs.Members.{in_with, none_past}
 use Rattle.rules.specs.Rules.{on_grid}
 use Rattle.rules.specs.Makes.{clipped}
-use Rattle.drafting.specs.Items.{some, no_route, gathered, set_of, place_outside, route_outside, entry_of, stored, last_weight}
+use Rattle.drafting.specs.Items.{some, no_route, gathered, place_outside, route_outside, entry_of, stored, last_weight}
 use Rattle.drafting.specs.Meanings.{ItemsMean}
 
 -- one of three, in another order
@@ -46,22 +45,20 @@ record Placed (place route : ℕ) : Type 0 where
 own_entry : (a b place route : ℕ) → Placed a b → Placed place route → entry_of a b ≡ entry_of place route → (a ≡ place) × (b ≡ route)
 own_entry a b place route g h e = (omega (arith, e, g.low, g.small, h.low, h.small), omega (arith, e, g.low, g.small, h.low, h.small))
 
+-- what an entry written into a table changes
+abbrev Writes : List ℤ → ℕ × ℕ × ℤ → ℕ → ℕ → Type 0
+Writes table x place route = get_or (set table (entry_of x.0 x.1) x.2) (entry_of place route) (pos 0) ≡ cond (eqb x.0 place && eqb x.1 route) x.2 (get_or table (entry_of place route) (pos 0))
+
 -- one entry more
-one_entry : (table : List ℤ) (x : ℕ × ℕ × ℤ) (place route : ℕ) → length table ≡ 2048 → Placed x.0 x.1 → Placed place route
-    → get_or (set table (entry_of x.0 x.1) x.2) (entry_of place route) (pos 0) ≡ cond (eqb x.0 place && eqb x.1 route) x.2 (get_or table (entry_of place route) (pos 0))
+one_entry : (table : List ℤ) (x : ℕ × ℕ × ℤ) (place route : ℕ) → length table ≡ 2048 → Placed x.0 x.1 → Placed place route → Writes table x place route
 one_entry table x place route long g h = go (cases_eq x.0 place) (cases_eq x.1 route)
   where
-    goal : Type 0
-    goal = get_or (set table (entry_of x.0 x.1) x.2) (entry_of place route) (pos 0) ≡ cond (eqb x.0 place && eqb x.1 route) x.2 (get_or table (entry_of place route) (pos 0))
-
-    other : (x.0 ≡ place → x.1 ≡ route → ⊥) → (eqb x.0 place && eqb x.1 route) ≡ false → goal
-    unfolding goal
+    other : (x.0 ≡ place → x.1 ≡ route → ⊥) → (eqb x.0 place && eqb x.1 route) ≡ false → Writes table x place route
     other ne e =
         let far : entry_of place route ≢ entry_of x.0 x.1 = λ s. let o = own_entry x.0 x.1 place route g h (sym s) in ne o.0 o.1 in
         get_or-set_other table (entry_of x.0 x.1) (entry_of place route) x.2 (pos 0) far ∙ rw e
 
-    go : (x.0 ≡ place) ⊎ (x.0 ≡ place → ⊥) → (x.1 ≡ route) ⊎ (x.1 ≡ route → ⊥) → goal
-    unfolding goal
+    go : (x.0 ≡ place) ⊎ (x.0 ≡ place → ⊥) → (x.1 ≡ route) ⊎ (x.1 ≡ route → ⊥) → Writes table x place route
     go (inl a) (inl b) =
         let within : entry_of place route < length table = omega (arith, long, h.low, h.high, h.small) in
         rw (a, b, eq-eqb place place refl, eq-eqb route route refl) (get_or-set_same table (entry_of place route) x.2 (pos 0) within)
@@ -95,6 +92,9 @@ pub items_mean : ItemsMean
 items_mean = record {
   routes = λ qs e q. in_gathered 0 qs e q ∙ ap (λ (b : Bool). some (eqb q) qs || b) (in_none q) ∙ or-false (some (eqb q) qs);
   weights = λ xs p q limit place route e.
-    ap (λ (z : ℤ). clipped 10000 z)
-    (all_entries xs (replicate 2048 (pos 0)) (length-replicate 2048 (pos 0)) p q place route (grid place route e) ∙ ap (λ (w : ℤ). last_weight xs place route w) (get_or-replicate 2048 (pos 0) (entry_of place route)));
+      let h = grid place route e in
+      let at = entry_of place route in
+      let within : at < 2048 = omega (arith, h.low, h.high, h.small) in
+      ap (λ (z : ℤ). clipped 10000 z)
+      (all_entries xs (replicate 2048 (pos 0)) (length-replicate 2048 (pos 0)) p q place route h ∙ ap (λ (w : ℤ). last_weight xs place route w) (get_or-replicate 2048 at (pos 0) (pos 0) within));
 }

@@ -1,13 +1,13 @@
 -- What is drafted is a chart in range, after every form. Assumes nothing.
-use Rattle.std.proofs.Common.{◌≡◌, ℕ, ◌+◌, ◌<◌, ◌≤◌, Bool, true, false, not, ◌&&◌, ◌||◌, eqb, ltb, leb, ◌⊎◌, List, [], ◌∷◌, ◌++◌, length, Some, None, Option, sym, refl, ap, ◌∙◌, subst, inl, inr, arith}
+use Rattle.std.proofs.Common.{◌≡◌, ℕ, ◌<◌, Bool, true, false, not, ◌&&◌, eqb, List, [], ◌∷◌, ◌++◌, length, Some, None, Option, sym, refl, subst, inl, inr, arith}
 use Rattle.std.proofs.lemmas.List.{length_push, get_or_push, get_or_append_left}
 use Rattle.std.proofs.lemmas.Bool.{cases_Bool, cases_lt, not-false, and_parts, or_parts, ltb-false, leb-true, leb-false, eqb-true, eq-eqb, both_ways}
 use Rattle.terms.specs.declared.arc.Arc.{Arc}
 use Rattle.terms.specs.declared.arc.NewArc.{NewArc}
 use Rattle.terms.specs.declared.refusal.Refusal.{Refusal}
-use Rattle.terms.specs.Refusals.{when, or_else, decided}
-use Rattle.plans.specs.Arcs.{no_arc, arc_at, ArcInRange, Sealed}
-use Rattle.charts.specs.Drafts.{Layout, new_draft, off_nodes, arc_rows, as_arc, on_arc}
+use Rattle.terms.specs.Refusals.{when, or_else}
+use Rattle.plans.specs.Arcs.{no_arc, ArcInRange, Sealed}
+use Rattle.charts.specs.Drafts.{Layout, new_draft, arc_rows, as_arc, on_arc}
 use Rattle.drafting.specs.Stages.{Drafted, places_rows, on_places}
 
 -- the layout of a draft is in range

@@ -1,5 +1,5 @@
 -- Routes put into a set one after another. Assumes nothing.
-use Rattle.std.proofs.Common.{◌≡◌, ℕ, Bool, true, false, cond, ◌||◌, ltb, leb, List, [], ◌∷◌, is_err, Ok, Err, Result, sym, refl, ap, ◌∙◌, inl, inr, arith}
+use Rattle.std.proofs.Common.{◌≡◌, ℕ, Bool, false, cond, ◌||◌, List, [], ◌∷◌, is_err, Ok, Err, Result, ap, ◌∙◌, inl, inr}
 use mathlib.Core.Bool.{or_assoc, or-false}
 use Rattle.std.proofs.lemmas.Bool.{cases_lt, lt-ltb, le-ltb, le-leb, lt-leb}
 use Rattle.terms.specs.declared.refusal.Refusal.{Refusal}

@@ -1,5 +1,5 @@
 -- The rules that a dossier drafts: what they are, and the forms that add to them. Assumes nothing.
-use Rattle.std.specs.Prelude.{ℕ, Bool, true, false, ◌||◌, List, [], ◌∷◌, ◌++◌, length, take, replicate, ℤ, pos, is_some, Some, None, Ok, Option, nat_le}
+use Rattle.std.specs.Prelude.{ℕ, ◌||◌, List, [], ◌∷◌, ◌++◌, length, take, replicate, ℤ, pos, is_some, Some, None, Ok, Option, nat_le}
 use Rattle.terms.specs.declared.refusal.Refusal.{Refusal}
 use Rattle.terms.specs.declared.refusal.Refusal.TheVariants.{NotHere, PlaceRange, RouteRange}
 use Rattle.terms.specs.declared.routes.RouteSet.{RouteSet}

@@ -1,6 +1,5 @@
 -- A dossier before its seal: which form is allowed, what it is answered and what it leaves. Assumes nothing.
-use Rattle.std.specs.Prelude.{ℕ, Bool, true, false, cond, not, ◌&&◌, ◌||◌, List, [], ◌∷◌, ℤ, is_some, Ok, Err, Option, Result, nat_le}
-use Rattle.terms.specs.declared.arc.NewArc.{NewArc}
+use Rattle.std.specs.Prelude.{ℕ, Bool, true, false, cond, not, ◌&&◌, ◌||◌, [], ◌∷◌, is_some, Ok, Err, Option, Result, nat_le}
 use Rattle.terms.specs.declared.refusal.Refusal.{Refusal}
 use Rattle.terms.specs.declared.refusal.Refusal.TheVariants.{NotHere, PlacesRange, PlacesLate}
 use Rattle.terms.specs.Refusals.{when, earliest, Outcome, decided}

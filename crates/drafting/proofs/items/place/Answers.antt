@@ -5,4 +5,4 @@ use Rattle.drafting.proofs.items.place.Goals as goal
 
 pub returns : goal.returns
 returns c =
-    placed c.args.table.now _ (entry_of c.args.entry.0 c.args.entry.1) c.entry-at.result _ c.args.entry.2 _ c.put.ensures c.entry-at.ensures (search rules) (omega arith)
+    placed c.args.table.now _ (entry_of c.args.entry.0 c.args.entry.1) c.entry_at.result _ c.args.entry.2 _ c.put.ensures c.entry_at.ensures (search rules) (omega arith)

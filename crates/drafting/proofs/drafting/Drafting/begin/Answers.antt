@@ -6,11 +6,11 @@ use Rattle.drafting.specs.Stages.{Drafted, drafted_of}
 use Rattle.drafting.proofs.Answered.{by_form, by_header, other_line}
 use Rattle.drafting.proofs.drafting.Drafting.begin.Goals as goal
 
-pub returns-then-is-header : goal.returns-then-is-header
-returns-then-is-header c = by_header (drafted_of c.args.self.now) c.args.line.now (c.is-header.ensures.0 c.if-is-header.true)
+pub returns-then-is_header : goal.returns-then-is_header
+returns-then-is_header c = by_header (drafted_of c.args.self.now) c.args.line.now (c.is_header.ensures.0 c.if-is_header.true)
 
 pub returns-in-Ok : goal.returns-in-Ok
 returns-in-Ok c =
     by_form c.args.line.now _ c.in-Ok.ensures.long c.in-Ok.ensures.reads
-    (λ f _ e. sym (ap (λ (o : Outcome Drafted Step). o.answer) (other_line (drafted_of c.args.self.now) c.args.line.now (λ h. both_ways _ c.if-is-header.false (c.is-header.ensures.1 h)) f e)))
-    (λ f _ e. sym (ap (λ (o : Outcome Drafted Step). o.left) (other_line (drafted_of c.args.self.now) c.args.line.now (λ h. both_ways _ c.if-is-header.false (c.is-header.ensures.1 h)) f e)))
+    (λ f _ e. sym (ap (λ (o : Outcome Drafted Step). o.answer) (other_line (drafted_of c.args.self.now) c.args.line.now (λ h. both_ways _ c.if-is_header.false (c.is_header.ensures.1 h)) f e)))
+    (λ f _ e. sym (ap (λ (o : Outcome Drafted Step). o.left) (other_line (drafted_of c.args.self.now) c.args.line.now (λ h. both_ways _ c.if-is_header.false (c.is_header.ensures.1 h)) f e)))
