@@ -1,6 +1,6 @@
 -- A line is read in one way. Assumes nothing.
 use Rattle.std.proofs.Common.{◌≡◌, ℕ, ◌<◌, ◌≤◌, ◌⊎◌, List, [], ◌∷◌, ◌++◌, take, drop, codes, decimal, sym, refl, ap, ◌∙◌, subst, inl, inr, append_assoc, arith, take-append-drop}
-use Rattle.std.specs.List.{flat_map, AllByRecursion as All}
+use Rattle.std.specs.List.{flat_map, AllByRecursion}
 use Rattle.std.proofs.lemmas.Bool.{cases_lt}
 use Rattle.lines.specs.declared.word.Word.{Word}
 use Rattle.lines.specs.declared.word.Word.TheVariants as word
@@ -22,7 +22,7 @@ tail : (b : ℕ) (p q : List ℕ) → b ∷ p ≡ b ∷ q → p ≡ q
 tail b p q e = cc
 
 -- a list of items has one text
-many_once : {X : Type 0} {text : X → List ℕ} {ok : X → Type 0} {tight : X → List ℕ → Type 0} (told : Told text ok tight) (z : List ℕ) (xs ys : List X) → All ok xs → All ok ys → flat_map (λ x. 32 ∷ text x) xs ++ (41 ∷ z) ≡ flat_map (λ x. 32 ∷ text x) ys ++ (41 ∷ z) → xs ≡ ys
+many_once : {X : Type 0} {text : X → List ℕ} {ok : X → Type 0} {tight : X → List ℕ → Type 0} (told : Told text ok tight) (z : List ℕ) (xs ys : List X) → AllByRecursion ok xs → AllByRecursion ok ys → flat_map (λ x. 32 ∷ text x) xs ++ (41 ∷ z) ≡ flat_map (λ x. 32 ∷ text x) ys ++ (41 ∷ z) → xs ≡ ys
 many_once told z [] [] h k e = refl
 many_once told z [] (y ∷ ys) h k e = absurd (omega (arith, ap ahead e))
 many_once told z (x ∷ xs) [] h k e = absurd (omega (arith, ap ahead e))

@@ -1,6 +1,6 @@
 -- What the cursors over a line's items still hold. Assumes nothing.
 use Rattle.std.specs.Prelude.{◌≡◌, ℕ, ◌≤◌, ◌⊎◌, List, [], ◌∷◌, ◌++◌, length, ℤ, Some, None, codes, Option}
-use Rattle.std.specs.List.{AllByRecursion as All}
+use Rattle.std.specs.List.{AllByRecursion}
 use Rattle.lines.specs.Forms.{Short, ShortPair, ShortTriple, spaced, numbers, pairs, triples}
 use Rattle.lines.specs.declared.form.NumberItems.{NumberItems}
 use Rattle.lines.specs.declared.form.PairItems.{PairItems}
@@ -11,7 +11,7 @@ use Rattle.lines.specs.declared.form.TripleItems.{TripleItems}
 pub record HoldsNumbers (ns : List ℕ) (c : NumberItems) : Type 0 where
   -- so many turns of a loop see them all
   pub few : length ns ≤ 4096
-  pub short : All Short ns
+  pub short : AllByRecursion Short ns
   pub after : List ℕ
   pub ends : (after ≡ []) ⊎ (after ≡ codes ")")
   pub written : (c.text.now ≡ codes "(" ++ (spaced ns ++ (codes ")" ++ after))) ⊎ (c.text.now ≡ numbers ns ++ (codes ")" ++ after))
@@ -20,14 +20,14 @@ pub record HoldsNumbers (ns : List ℕ) (c : NumberItems) : Type 0 where
 pub record HoldsPairs (xs : List (ℕ × ℤ)) (c : PairItems) : Type 0 where
   -- so many turns of a loop see them all
   pub few : length xs ≤ 4096
-  pub short : All ShortPair xs
+  pub short : AllByRecursion ShortPair xs
   pub written : c.text.now ≡ pairs xs ++ codes ")"
 
 -- the cursor c still holds the triples xs: its text is each after a blank, and the bracket that ends the line
 pub record HoldsTriples (xs : List (ℕ × ℕ × ℤ)) (c : TripleItems) : Type 0 where
   -- so many turns of a loop see them all
   pub few : length xs ≤ 4096
-  pub short : All ShortTriple xs
+  pub short : AllByRecursion ShortTriple xs
   pub written : c.text.now ≡ triples xs ++ codes ")"
 
 -- x is the first of the items xs, and the cursor c holds the others

@@ -1,6 +1,6 @@
 -- The forms of a dossier's lines, and the one text of each. Assumes nothing.
 use Rattle.std.specs.Prelude.{◌≡◌, ℕ, suc, ◌^◌, ◌<◌, List, [], ◌∷◌, ◌++◌, ℤ, pos, negsuc, codes, decimal}
-use Rattle.std.specs.List.{flat_map, AllByRecursion as All}
+use Rattle.std.specs.List.{flat_map, AllByRecursion}
 use Rattle.std.specs.Fmt.{signed_decimal}
 use Rattle.terms.specs.declared.arc.NewArc.{NewArc}
 
@@ -103,18 +103,18 @@ abbrev pub Proper : Form → Type 0
 Proper Casebook = Unit {0}
 Proper (Places n) = Short n
 Proper (Arc a) = Short a.place × Short a.start × Short a.end × Short a.route × Short a.minutes
-Proper (Once routes) = All Short routes
+Proper (Once routes) = AllByRecursion Short routes
 Proper (Order a b) = Short a × Short b
-Proper (Budget limit entries) = ShortZ limit × All ShortTriple entries
+Proper (Budget limit entries) = ShortZ limit × AllByRecursion ShortTriple entries
 Proper Seal = Unit {0}
 Proper (Claim n) = Short n
-Proper (Price xs) = All ShortPair xs
+Proper (Price xs) = AllByRecursion ShortPair xs
 Proper Sample = Unit {0}
-Proper (Strike xs) = All ShortPair xs
+Proper (Strike xs) = AllByRecursion ShortPair xs
 Proper Trim = Unit {0}
-Proper (Split place routes) = Short place × All Short routes
-Proper (Close xs) = All ShortPair xs
-Proper (Offer arcs) = All Short arcs
+Proper (Split place routes) = Short place × AllByRecursion Short routes
+Proper (Close xs) = AllByRecursion ShortPair xs
+Proper (Offer arcs) = AllByRecursion Short arcs
 Proper Verdict = Unit {0}
 
 -- the line l is a form

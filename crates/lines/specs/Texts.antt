@@ -1,6 +1,6 @@
 -- Sets of texts, and where a reader of such a set stops. Assumes nothing.
 use Rattle.std.specs.Prelude.{◌≡◌, ℕ, suc, ◌+◌, ◌^◌, ◌<◌, ◌≤◌, ◌⊎◌, List, ◌∷◌, ◌++◌, length, take, drop, ℤ, pos, negsuc, Some, None, codes, decimal, Option, ◌≢◌, slice_index}
-use Rattle.std.specs.List.{flat_map, AllByRecursion as All}
+use Rattle.std.specs.List.{flat_map, AllByRecursion}
 use Rattle.std.specs.Int.{IsInRange}
 use Rattle.std.specs.Fmt.{signed_decimal}
 use Rattle.lines.specs.Forms.{Short, ShortZ, ShortPair, ShortTriple, number, spaced, pair, triple}
@@ -52,7 +52,7 @@ Item N = Piece number Short (λ _. N)
 
 -- texts of x, each after a blank, and then the text z
 abbrev pub Many : {X : Type 0} → (X → List ℕ) → (X → Type 0) → List ℕ → List ℕ → Type 0
-Many {X} text ok z t = (xs : List X) × All ok xs × (t ≡ flat_map (λ x. 32 ∷ text x) xs ++ z)
+Many {X} text ok z t = (xs : List X) × AllByRecursion ok xs × (t ≡ flat_map (λ x. 32 ∷ text x) xs ++ z)
 
 -- pairs to the end of the line
 abbrev pub Pairs : List ℕ → Type 0
@@ -72,7 +72,7 @@ Others = Many decimal Short (codes "))")
 
 -- numbers with blanks between, and the two brackets that end the line
 abbrev pub Listed : List ℕ → Type 0
-Listed t = (ns : List ℕ) × All Short ns × (t ≡ spaced ns ++ codes "))")
+Listed t = (ns : List ℕ) × AllByRecursion Short ns × (t ≡ spaced ns ++ codes "))")
 
 -- numbers in brackets of their own, after a blank, to the end of the line
 abbrev pub Routes : List ℕ → Type 0
