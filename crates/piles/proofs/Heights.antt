@@ -1,14 +1,14 @@
 -- How the cases of a pile change with the marks and the records. Assumes nothing.
-use Rattle.std.proofs.Common.{◌≡◌, ℕ, zero, suc, ◌+◌, ◌-◌, ◌<◌, ◌≤◌, Bool, true, false, cond, not, ◌&&◌, ◌||◌, eqb, ltb, List, [], ◌∷◌, length, get_or, set, sym, refl, ap, subst, ap₂, arith, get_or-set_other, get_or-set_same}
+use Rattle.std.proofs.Common.{◌≡◌, ℕ, zero, suc, ◌<◌, ◌≤◌, Bool, true, false, cond, not, ◌&&◌, ◌||◌, eqb, ltb, List, ◌∷◌, length, get_or, set, sym, refl, ap, subst, ap₂, arith, get_or-set_other, get_or-set_same}
 use mathlib.Core.Path.{fun_ext}
 use Rattle.std.proofs.lemmas.Bool.Decides.{nat_tests}
 use Rattle.terms.specs.declared.arc.Arc.{Arc}
 use Rattle.terms.specs.Routes.{in_set}
 use Rattle.plans.specs.Arcs.{arc_at}
-use Rattle.plans.specs.Cases.{Case, every}
-use Rattle.judging.specs.Cases.{inside, outside, top, under}
+use Rattle.plans.specs.Cases.{every}
+use Rattle.judging.specs.Cases.{inside, outside}
 use Rattle.piles.specs.declared.pile.Split.{Split}
-use Rattle.piles.specs.Heights.{no_split, split_at, stands_at, left_by, cases_under, cases_of, on_side, sided, cut_mark, lift_mark, keep_mark}
+use Rattle.piles.specs.Heights.{no_split, split_at, stands_at, left_by, cases_under, cases_of, sided, cut_mark, lift_mark, keep_mark}
 
 pub length-under : (arcs : List Arc) (marks : List ℕ) (splits : List Split) (i : ℕ) → length (cases_under arcs marks splits i) ≡ i
 length-under arcs marks splits zero = refl

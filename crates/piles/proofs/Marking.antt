@@ -1,5 +1,5 @@
 -- One more arc in a loop over the marks. Assumes nothing.
-use Rattle.std.proofs.Common.{◌≡◌, ℕ, suc, ◌+◌, Bool, true, false, cond, ◌||◌, eqb, sym, refl, ap, ◌∙◌, add-one}
+use Rattle.std.proofs.Common.{◌≡◌, ℕ, ◌+◌, Bool, true, false, cond, ◌||◌, eqb, sym, refl, ap, ◌∙◌, add-one}
 use Rattle.plans.specs.Cases.{Case, any}
 use Rattle.piles.specs.Heights.{lift_mark}
 

@@ -1,5 +1,5 @@
 -- The calls on a pile of any height. Assumes nothing.
-use Rattle.std.proofs.Common.{◌≡◌, ℕ, zero, suc, ◌+◌, ◌-◌, ◌<◌, ◌≤◌, Bool, true, false, cond, not, ◌&&◌, ◌||◌, eqb, ltb, List, [], ◌∷◌, length, get_or, set, sym, refl, ap, ◌∙◌, subst, ap₂, subst₂, arith}
+use Rattle.std.proofs.Common.{◌≡◌, ℕ, zero, suc, ◌+◌, ◌-◌, ◌<◌, ◌≤◌, Bool, true, false, not, ◌&&◌, ◌||◌, eqb, ltb, List, ◌∷◌, length, get_or, set, sym, refl, ap, ◌∙◌, subst, ap₂, arith}
 use mathlib.Core.Path.{fun_ext}
 use Rattle.std.proofs.lemmas.Bool.Decides.{nat_tests}
 use Rattle.terms.specs.declared.arc.Arc.{Arc}
@@ -9,7 +9,7 @@ use Rattle.plans.specs.Cases.{Case, any}
 use Rattle.judging.specs.Cases.{at_place, inside, outside, top, under}
 use Rattle.judging.specs.Calls.{one_sided}
 use Rattle.piles.specs.declared.pile.Split.{Split}
-use Rattle.piles.specs.Heights.{split_at, stands_at, cases_under, cases_of, sided, cut_mark, lift_mark, keep_mark}
+use Rattle.piles.specs.Heights.{split_at, stands_at, cases_of, sided, cut_mark, lift_mark, keep_mark}
 use Rattle.piles.proofs.Heights.{top-stands, kept_low, kept_cases, split_low, split_cases, closed_low, closed_cases}
 
 module _ (arcs : List Arc) (marks : List ℕ) (splits : List Split) (k : ℕ) (some : 0 < k) (low : (a : ℕ) → get_or marks a 0 ≤ k) where

@@ -1,11 +1,10 @@
 -- The cases that marks and split records stand for. Assumes nothing.
 use Rattle.std.specs.Prelude.{ℕ, zero, suc, Bool, true, false, cond, not, ◌&&◌, ◌||◌, List, [], ◌∷◌, length, ◌==◌, nat_lt, slice_index, slice_index_or}
 use Rattle.terms.specs.declared.arc.Arc.{Arc}
-use Rattle.terms.specs.declared.routes.RouteSet.{RouteSet}
 use Rattle.terms.specs.Routes.{in_set}
 use Rattle.plans.specs.Arcs.{arc_at}
 use Rattle.plans.specs.Cases.{Case}
-use Rattle.judging.specs.Cases.{inside, outside}
+use Rattle.judging.specs.Cases.{outside}
 use Rattle.piles.specs.declared.pile.Split.{Split}
 
 -- stands past the end of a table of records

@@ -2,9 +2,9 @@ use Rattle.std.proofs.Common.{sym, ◌∙◌, arith}
 use Rattle.amounts.proofs.Lowest.{unfair-found, unfair-none}
 use Rattle.pricing.proofs.fair.first_unfair.Goals as goal
 
-pub returns-then-not-has-fair : goal.returns-then-not-has-fair
-returns-then-not-has-fair g c =
-    sym (unfair-found (g.B.Bank.rules c.args.bank.now) c.args.multipliers.now c.requires.many c.loop-rule.rule (omega (arith, c.requires.many)) (sym c.has-fair.ensures ∙ c.if-not-has-fair.true) c.loop-rule.invariant)
+pub returns-then-not-has_fair : goal.returns-then-not-has_fair
+returns-then-not-has_fair g c =
+    sym (unfair-found (g.B.Bank.rules c.args.bank.now) c.args.multipliers.now c.requires.many c.loop-rule.rule (omega (arith, c.requires.many)) (sym c.has_fair.ensures ∙ c.if-not-has_fair.true) c.loop-rule.invariant)
 
 pub returns : goal.returns
 returns g c =

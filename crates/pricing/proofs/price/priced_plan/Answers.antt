@@ -5,21 +5,21 @@ use Rattle.ways.specs.Amounts.{marked, price_at}
 use Rattle.through.proofs.Pricing.{share_narrow, sweepable, sum-small, with-share, plan-is}
 use Rattle.pricing.proofs.price.priced_plan.Goals as goal
 
-pub least-plan-sum-requires : goal.least-plan-sum-requires
-least-plan-sum-requires g c = record {
-  fit = sweepable (places_of c.args.chart.now) (arcs_of c.args.chart.now) c.places.ensures.sealed (g.B.Bank.rules c.args.bank.now) c.args.multipliers.now c.requires.asked (g.B.Bank.within c.args.bank.now) c.args.standing.now c.requires.marks c.standing-prices-prices.result c.standing-prices-prices.ensures.long c.standing-prices-prices.ensures.each;
+pub least_plan-sum-requires : goal.least_plan-sum-requires
+least_plan-sum-requires g c = record {
+  fit = sweepable (places_of c.args.chart.now) (arcs_of c.args.chart.now) c.places.ensures.sealed (g.B.Bank.rules c.args.bank.now) c.args.multipliers.now c.requires.asked (g.B.Bank.within c.args.bank.now) c.args.standing.now c.requires.marks c.standing_prices-prices.result c.standing_prices-prices.ensures.long c.standing_prices-prices.ensures.each;
   room = c.requires.room;
 }
 
 pub plus-requires : goal.plus-requires
 plus-requires g c = record {
-  amount-small = sum-small (places_of c.args.chart.now) (arcs_of c.args.chart.now) c.places.ensures.sealed (g.B.Bank.rules c.args.bank.now) c.args.multipliers.now c.requires.asked (g.B.Bank.within c.args.bank.now) c.args.standing.now c.requires.marks c.standing-prices-prices.result c.standing-prices-prices.ensures.long c.standing-prices-prices.ensures.each c.least-plan-sum.result c.least-plan-sum.ensures.amount;
-  more-small = share_narrow (g.B.Bank.rules c.args.bank.now) c.args.multipliers.now c.requires.asked (g.B.Bank.within c.args.bank.now) c.limits-share.result c.limits-share.ensures;
+  amount_small = sum-small (places_of c.args.chart.now) (arcs_of c.args.chart.now) c.places.ensures.sealed (g.B.Bank.rules c.args.bank.now) c.args.multipliers.now c.requires.asked (g.B.Bank.within c.args.bank.now) c.args.standing.now c.requires.marks c.standing_prices-prices.result c.standing_prices-prices.ensures.long c.standing_prices-prices.ensures.each c.least_plan-sum.result c.least_plan-sum.ensures.amount;
+  more_small = share_narrow (g.B.Bank.rules c.args.bank.now) c.args.multipliers.now c.requires.asked (g.B.Bank.within c.args.bank.now) c.limits_share.result c.limits_share.ensures;
 }
 
 pub returns : goal.returns
 returns g c = record {
   amount = c.plus.ensures.value
-      ∙ with-share (places_of c.args.chart.now) (arcs_of c.args.chart.now) c.places.ensures.sealed (g.B.Bank.rules c.args.bank.now) c.args.multipliers.now c.requires.asked (g.B.Bank.within c.args.bank.now) c.args.standing.now c.requires.marks c.standing-prices-prices.result c.standing-prices-prices.ensures.long c.standing-prices-prices.ensures.each c.least-plan-sum.result c.least-plan-sum.ensures.amount c.limits-share.result c.limits-share.ensures;
-  plan = c.least-plan-sum.ensures.plan ∙ ap (λ (o : Option (List ℕ)). written o c.args.plan.now) (plan-is (places_of c.args.chart.now) (arcs_of c.args.chart.now) (g.B.Bank.rules c.args.bank.now) c.args.multipliers.now (marked c.args.standing.now) (price_at c.standing-prices-prices.result) c.standing-prices-prices.ensures.each);
+      ∙ with-share (places_of c.args.chart.now) (arcs_of c.args.chart.now) c.places.ensures.sealed (g.B.Bank.rules c.args.bank.now) c.args.multipliers.now c.requires.asked (g.B.Bank.within c.args.bank.now) c.args.standing.now c.requires.marks c.standing_prices-prices.result c.standing_prices-prices.ensures.long c.standing_prices-prices.ensures.each c.least_plan-sum.result c.least_plan-sum.ensures.amount c.limits_share.result c.limits_share.ensures;
+  plan = c.least_plan-sum.ensures.plan ∙ ap (λ (o : Option (List ℕ)). written o c.args.plan.now) (plan-is (places_of c.args.chart.now) (arcs_of c.args.chart.now) (g.B.Bank.rules c.args.bank.now) c.args.multipliers.now (marked c.args.standing.now) (price_at c.standing_prices-prices.result) c.standing_prices-prices.ensures.each);
 }

@@ -1,17 +1,17 @@
 use Rattle.through.proofs.Asked.{rule_there, worth-fits, worth-is}
 use Rattle.pricing.proofs.prices.weight_part.Goals as goal
 
-pub weight-at-weight-requires : goal.weight-at-weight-requires
-weight-at-weight-requires g c = record {
+pub weight_at-weight-requires : goal.weight_at-weight-requires
+weight_at-weight-requires g c = record {
   few = c.requires.asked.few;
   there = rule_there (g.B.Bank.rules c.args.bank.now) c.args.multipliers.now c.requires.asked c.args.rule c.requires.there;
   fit = c.requires.fit;
 }
 
-pub overflow-mul-result : goal.overflow-mul-result
-overflow-mul-result g c =
-    worth-fits (g.B.Bank.rules c.args.bank.now) c.args.multipliers.now c.requires.asked (g.B.Bank.within c.args.bank.now) c.args.rule c.requires.there c.args.arc.place c.args.arc.route c.requires.fit c.weight-at-weight.result c.weight-at-weight.ensures
+pub overflow_mul-result : goal.overflow_mul-result
+overflow_mul-result g c =
+    worth-fits (g.B.Bank.rules c.args.bank.now) c.args.multipliers.now c.requires.asked (g.B.Bank.within c.args.bank.now) c.args.rule c.requires.there c.args.arc.place c.args.arc.route c.requires.fit c.weight_at-weight.result c.weight_at-weight.ensures
 
 pub returns : goal.returns
 returns g c =
-    worth-is (g.B.Bank.rules c.args.bank.now) c.args.multipliers.now c.requires.asked (g.B.Bank.within c.args.bank.now) c.args.rule c.requires.there c.args.arc.place c.args.arc.route c.requires.fit c.weight-at-weight.result c.weight-at-weight.ensures
+    worth-is (g.B.Bank.rules c.args.bank.now) c.args.multipliers.now c.requires.asked (g.B.Bank.within c.args.bank.now) c.args.rule c.requires.there c.args.arc.place c.args.arc.route c.requires.fit c.weight_at-weight.result c.weight_at-weight.ensures

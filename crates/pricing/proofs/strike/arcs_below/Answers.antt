@@ -8,8 +8,8 @@ use Rattle.through.proofs.Passed.{passed_is}
 use Rattle.through.proofs.Keeping.{tabled, table_below_lem}
 use Rattle.pricing.proofs.strike.arcs_below.Goals as goal
 
-pub mark-below-requires : goal.mark-below-requires
-mark-below-requires c =
+pub mark_below-requires : goal.mark_below-requires
+mark_below-requires c =
     let n = places_of c.args.chart.now in
     let arcs = arcs_of c.args.chart.now in
     let sealed = c.places.ensures.sealed in
@@ -19,7 +19,7 @@ mark-below-requires c =
     record {
       tabled = subst (λ (xs : List Arc). Tabled xs prices fore back) (sym c.arcs.ensures) (tabled n arcs sealed (marked c.args.standing.now) prices fore back c.forward.ensures c.backward.ensures c.requires.fit.priced c.requires.fit.small c.forward.auto.out c.backward.auto.out);
       share_small = rw (passed_is c.args.share c.requires.share_small) c.requires.share_small;
-      room = omega (arith, ap length c.arcs.ensures, sealed.count, c.no-marks-keep.ensures);
+      room = omega (arith, ap length c.arcs.ensures, sealed.count, c.no_marks-keep.ensures);
     }
 
 pub returns : goal.returns
@@ -34,9 +34,9 @@ returns c =
     let share = c.args.share in
     let mark = c.args.mark in
     record {
-      long = omega (arith, c.mark-below.auto.keep, c.no-marks-keep.ensures);
+      long = omega (arith, c.mark_below.auto.keep, c.no_marks-keep.ensures);
       each = λ a l.
-          c.mark-below.ensures a (omega (arith, ap length c.arcs.ensures))
+          c.mark_below.ensures a (omega (arith, ap length c.arcs.ensures))
           ∙ ap (λ (xs : List Arc). table_below xs prices fore back (to_z w64 (of_z w64 share)) (to_z w64 (of_z w64 mark)) a) c.arcs.ensures
           ∙ ap (λ (z : ℤ). table_below arcs prices fore back z (to_z w64 (of_z w64 mark)) a) (to_z-of_z w64 share c.ranges.share)
           ∙ ap (λ (z : ℤ). table_below arcs prices fore back share z a) (to_z-of_z w64 mark c.ranges.mark)

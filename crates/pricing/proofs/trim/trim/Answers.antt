@@ -12,11 +12,11 @@ returns c =
     let arcs = arcs_of c.args.chart.now in
     let sealed = c.places.ensures.sealed in
     let s = marked c.args.standing.now in
-    let price = price_at c.no-prices-prices.result in
-    let kept = marked c.reached-arcs-keep.result in
-    let test = c.reached-arcs-keep.ensures.each in
+    let price = price_at c.no_prices-prices.result in
+    let kept = marked c.reached_arcs-keep.result in
+    let test = c.reached_arcs-keep.ensures.each in
     record {
-      marks = λ a l. c.take-away.ensures.marks a (omega (arith, c.count.ensures)) ∙ ap (λ b. s a && b) (test a l) ∙ reached_kept n arcs sealed s price a l;
-      rest = λ a l. c.take-away.ensures.rest a (omega (arith, c.count.ensures));
-      answer = c.take-away.ensures.answer ∙ ap (size (λ a. s a && not (kept a))) c.count.ensures ∙ size_same _ _ (length arcs) (λ a l. ap (λ b. s a && not b) (test a l) ∙ reached_gone n arcs sealed s price a l);
+      marks = λ a l. c.take_away.ensures.marks a (omega (arith, c.count.ensures)) ∙ ap (λ b. s a && b) (test a l) ∙ reached_kept n arcs sealed s price a l;
+      rest = λ a l. c.take_away.ensures.rest a (omega (arith, c.count.ensures));
+      answer = c.take_away.ensures.answer ∙ ap (size (λ a. s a && not (kept a))) c.count.ensures ∙ size_same _ _ (length arcs) (λ a l. ap (λ b. s a && not b) (test a l) ∙ reached_gone n arcs sealed s price a l);
     }

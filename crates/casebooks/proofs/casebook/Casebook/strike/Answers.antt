@@ -6,5 +6,5 @@ use Rattle.casebooks.proofs.casebook.Casebook.strike.Goals as goal
 pub strike-requires : goal.strike-requires
 strike-requires g c =
     let s = c.args.self.now in
-    let r = strike_asked (problem_of s.desk (g.B.Bank.rules s.bank)) (model_of s.desk) c.args.multipliers.now (sym c.in-default.ensures) in
+    let r = strike_asked (problem_of s.desk (g.B.Bank.rules s.bank)) (model_of s.desk) c.args.multipliers.now (sym c.in_default.ensures) in
     record { asked = r.0; some = r.1 }

@@ -1,4 +1,4 @@
-use Rattle.std.proofs.Common.{◌≡◌, sym, subst}
+use Rattle.std.proofs.Common.{sym, subst}
 use Rattle.judging.specs.Theorem.{Posed, Meant}
 use Rattle.judging.proofs.Means.{verdict_means}
 use Rattle.casebooks.specs.Views.{problem_of}

@@ -1,15 +1,15 @@
-use Rattle.std.proofs.Common.{◌≡◌, sym, arith}
+use Rattle.std.proofs.Common.{sym, arith}
 use Rattle.charts.specs.Drafts.{arcs_of}
 use Rattle.judging.proofs.Rows.{stray-none}
 use Rattle.casebooks.proofs.Offers.{path_there}
 use Rattle.casebooks.proofs.casebook.Desk.offer_row.Goals as goal
 
-pub first-broken-requires : goal.first-broken-requires
-first-broken-requires g c =
+pub first_broken-requires : goal.first_broken-requires
+first_broken-requires g c =
     let arcs = arcs_of c.args.self.now.chart in
     let p = c.args.offered.now in
     record {
       few = omega (arith, c.if-offered-places.false, c.places.ensures.value, c.places.ensures.sealed.few);
-      there = path_there arcs p 1 0 (stray-none arcs 1 0 p (sym c.in-default.ensures));
+      there = path_there arcs p 1 0 (stray-none arcs 1 0 p (sym c.in_default.ensures));
       rules = omega (arith, c.count.ensures, c.if-count-gt128.false);
     }

@@ -1,4 +1,4 @@
-use Rattle.std.proofs.Common.{◌≡◌, ap, ◌∙◌}
+use Rattle.std.proofs.Common.{ap, ◌∙◌}
 use Rattle.plans.specs.Cases.{Case}
 use Rattle.plans.specs.Firsts.{written}
 use Rattle.judging.specs.Cases.{first_plan, least, top}
@@ -13,6 +13,6 @@ returns g c =
     let zs = c.args.multipliers.now in
     let same = same_case c.working-standing.result (top (model_of d).pile) c.working-standing.ensures.each in
     record {
-      amount = c.priced-plan.ensures.amount ∙ ap (λ (s : Case). least t zs s) same;
-      plan = c.priced-plan.ensures.plan ∙ ap (λ (s : Case). written (first_plan t zs s) c.args.plan.now) same;
+      amount = c.priced_plan.ensures.amount ∙ ap (λ (s : Case). least t zs s) same;
+      plan = c.priced_plan.ensures.plan ∙ ap (λ (s : Case). written (first_plan t zs s) c.args.plan.now) same;
     }

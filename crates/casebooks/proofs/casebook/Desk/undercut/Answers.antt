@@ -1,7 +1,7 @@
-use Rattle.std.proofs.Common.{◌≡◌, ap, ◌∙◌, ap₂, w64, SFits, rules}
+use Rattle.std.proofs.Common.{ap, ◌∙◌, ap₂, w64, SFits, rules}
 use Rattle.std.proofs.lemmas.Int.{to_z-of_z}
 use Rattle.plans.specs.Cases.{Case}
-use Rattle.judging.specs.Cases.{least, top, mark}
+use Rattle.judging.specs.Cases.{least, top}
 use Rattle.judging.specs.Calls.{undercut}
 use Rattle.casebooks.specs.Views.{problem_of, model_of}
 use Rattle.casebooks.proofs.Working.{same_case}
@@ -15,4 +15,4 @@ returns g c =
     let f : SFits w64 c.mark.result = search rules in
     let at = to_z-of_z w64 c.mark.result f ∙ c.mark.ensures in
     let same = same_case c.working-standing.result (top (model_of d).pile) c.working-standing.ensures.each in
-    c.below.ensures ∙ ap₂ undercut at (c.least-amount.ensures ∙ ap (λ (s : Case). least t zs s) same)
+    c.below.ensures ∙ ap₂ undercut at (c.least_amount.ensures ∙ ap (λ (s : Case). least t zs s) same)

@@ -1,8 +1,6 @@
-use Rattle.std.proofs.Common.{◌≡◌, ◌<◌, ◌≤◌, not, length, get_or, sym, ap, ◌∙◌, arith, below_more}
+use Rattle.std.proofs.Common.{◌<◌, length, sym, ◌∙◌, arith, below_more}
 use Rattle.std.proofs.lemmas.Bool.{not-true, not-false}
 use Rattle.charts.specs.Drafts.{arcs_of}
-use Rattle.rules.specs.Rules.{no_rule}
-use Rattle.rules.specs.Lawful.{holds}
 use Rattle.judging.proofs.Rows.{broken-found, holding-none}
 use Rattle.casebooks.proofs.casebook.offers.first_broken.Goals as goal
 

@@ -1,4 +1,4 @@
-use Rattle.std.proofs.Common.{◌≡◌, ◌+◌, true, eqb, ltb, length, get_or, drop, sym, ap, ◌∙◌, subst, arith}
+use Rattle.std.proofs.Common.{◌+◌, eqb, ltb, length, get_or, drop, sym, ap, ◌∙◌}
 use Rattle.std.proofs.lemmas.Bool.{and_from, and_left, and_right, eq-eqb, ne_eqb}
 use Rattle.terms.specs.declared.arc.Arc.{Arc}
 use Rattle.plans.specs.Arcs.{arc_at}
@@ -7,12 +7,12 @@ use Rattle.judging.specs.Calls.{stray}
 use Rattle.casebooks.proofs.Offers.{arc_known, arc_missing, stray_bad, stray_good, stray_end}
 use Rattle.casebooks.proofs.casebook.offers.stray.Goals as goal
 
-pub returns-in-default : goal.returns-in-default
-returns-in-default c =
+pub returns-in_default : goal.returns-in_default
+returns-in_default c =
     let arcs = arcs_of c.args.chart.now in
     let p = c.args.offered.now in
     let j = c.loop-j.j in
-    sym (stray_bad arcs p j c.loop-j.node c.loop-j-test.true (and_left (ltb (get_or p j 0) (length arcs)) _ (arc_missing arcs (get_or p j 0) c.in-default.ensures))) ∙ c.loop-j.invariant
+    sym (stray_bad arcs p j c.loop-j.node c.loop-j-test.true (and_left (ltb (get_or p j 0) (length arcs)) _ (arc_missing arcs (get_or p j 0) c.in_default.ensures))) ∙ c.loop-j.invariant
 
 pub returns-then-arc-j : goal.returns-then-arc-j
 returns-then-arc-j c =

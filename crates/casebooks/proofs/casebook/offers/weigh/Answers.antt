@@ -1,6 +1,5 @@
-use Rattle.std.proofs.Common.{◌≡◌, ◌+◌, ◌*◌, ◌<◌, ◌≤◌, length, get_or, take, ℤ, ◌+ℤ◌, nat_abs, sym, refl, ap, ◌∙◌, subst, arith}
+use Rattle.std.proofs.Common.{◌+◌, ◌*◌, ◌<◌, ◌≤◌, get_or, take, ℤ, ◌+ℤ◌, nat_abs, sym, refl, ap, ◌∙◌, subst, arith}
 use Rattle.std.proofs.lemmas.List.{take_all}
-use Rattle.plans.specs.Arcs.{arc_at}
 use Rattle.charts.specs.Drafts.{arcs_of}
 use Rattle.rules.specs.Rules.{no_rule}
 use Rattle.rules.specs.Lawful.{weighed}
@@ -16,24 +15,24 @@ both x y i a b l = omega (arith, add_size x y)
 step : (x y : ℤ) (i : Prim.Native.Nat.ℕ) → nat_abs x ≤ 10000 * i → nat_abs y ≤ 10000 → nat_abs (x +ℤ y) ≤ 10000 * (i + 1)
 step x y i a b = omega (arith, add_size x y)
 
-pub overflow-add-sum : goal.overflow-add-sum
-overflow-add-sum g c =
-    let y = c.weight-at-sum.result in
+pub overflow_add-sum : goal.overflow_add-sum
+overflow_add-sum g c =
+    let y = c.weight_at-sum.result in
     let i = c.loop-i.i in
-    let small = c.weight-at-sum.ensures.small in
+    let small = c.weight_at-sum.ensures.small in
     let l : i < 32 = omega (arith, c.loop-i-test.true, c.requires.few) in
     sum_fits _ _ y 320000 refl (omega (arith, small)) (both _ y i c.loop-i.invariant.1 small l) (omega arith)
 
 pub loop-i-preserved : goal.loop-i-preserved
 loop-i-preserved g c =
-    let y = c.weight-at-sum.result in
+    let y = c.weight_at-sum.result in
     let i = c.loop-i.i in
-    let small = c.weight-at-sum.ensures.small in
+    let small = c.weight_at-sum.ensures.small in
     let l : i < 32 = omega (arith, c.loop-i-test.true, c.requires.few) in
     let is = sum_is _ _ y 320000 refl (omega (arith, small)) (both _ y i c.loop-i.invariant.1 small l) (omega arith) in
     let u = get_or (g.B.Bank.rules c.args.bank.now) c.args.rule no_rule in
     let more = weighed-more (arcs_of c.args.chart.now) u c.args.plan.now i c.loop-i-test.true in (
-      is ∙ ap (λ x. x +ℤ y) c.loop-i.invariant.0 ∙ ap (λ z. weighed (arcs_of c.args.chart.now) u (take i c.args.plan.now) +ℤ z) c.weight-at-sum.ensures.value ∙ sym more,
+      is ∙ ap (λ x. x +ℤ y) c.loop-i.invariant.0 ∙ ap (λ z. weighed (arcs_of c.args.chart.now) u (take i c.args.plan.now) +ℤ z) c.weight_at-sum.ensures.value ∙ sym more,
       subst (λ z. nat_abs z ≤ 10000 * (i + 1)) (sym is) (step _ y i c.loop-i.invariant.1 small),
     )
 

@@ -1,7 +1,7 @@
-use Rattle.std.proofs.Common.{◌≡◌, ◌≤◌, get_or, ℤ, nat_abs, sym, refl, ap, ◌∙◌, subst, arith, w64, to_z, of_z}
+use Rattle.std.proofs.Common.{◌≤◌, get_or, nat_abs, sym, ap, ◌∙◌, subst, arith, w64}
 use Rattle.std.proofs.lemmas.Int.{to_z-of_z}
 use Rattle.terms.specs.declared.arc.Arc.{Arc}
-use Rattle.rules.specs.Rules.{Rule, no_rule}
+use Rattle.rules.specs.Rules.{no_rule}
 use Rattle.charts.specs.Drafts.{arcs_of}
 use Rattle.rules.proofs.Given.{weight_known, weight_within}
 use Rattle.amounts.proofs.Sizes.{within_size, fits}

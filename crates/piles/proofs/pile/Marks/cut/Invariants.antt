@@ -1,5 +1,5 @@
-use Rattle.std.proofs.Common.{◌≡◌, ℕ, ◌<◌, ◌≤◌, false, ◌&&◌, eqb, ltb, length, get_or}
-use Rattle.piles.specs.Heights.{cut_mark, lift_mark, keep_mark}
+use Rattle.std.proofs.Common.{◌≡◌, ℕ, ◌<◌, ◌≤◌, length, get_or}
+use Rattle.piles.specs.Heights.{cut_mark}
 use Rattle.piles.proofs.pile.Marks.cut.Given as goal
 
 -- the arcs behind are done, and the others as they were

@@ -1,6 +1,6 @@
-use Rattle.std.proofs.Common.{◌<◌, ◌≤◌, arith}
+use Rattle.std.proofs.Common.{◌<◌, arith}
 use Rattle.piles.proofs.Heights.{length_cases}
-use Rattle.piles.proofs.Views.{close_last, close_view, close_low, lifted_low}
+use Rattle.piles.proofs.Views.{close_last, close_view}
 use Rattle.piles.proofs.pile.Pile.close.Goals as goal
 
 pub returns-then-height-eq1 : goal.returns-then-height-eq1

@@ -3,12 +3,17 @@ use Rattle.piles.proofs.Heights.{length_cases}
 use Rattle.piles.proofs.Views.{keep_view, keep_low}
 use Rattle.piles.proofs.pile.Pile.keep.Goals as goal
 
-pub invariant-of-self : goal.invariant-of-self
-invariant-of-self c =
+pub invariant_of-self : goal.invariant_of-self
+invariant_of-self c =
     let s = c.args.self.now in
     let arcs = c.args.arcs.now in
     let some : 0 < s.table.count = omega (arith, c.requires.some, length_cases arcs s.marks.at s.table.at s.table.count) in
-    (c.keep.ensures.long, (s.recorded, (s.within, (keep_low arcs s.marks.at s.table.at s.table.count some s.low c.keep.new.self.at c.args.keeps.now c.keep.ensures.each, tt))))
+    record {
+      marked = c.keep.ensures.long;
+      recorded = s.recorded;
+      within = s.within;
+      low = keep_low arcs s.marks.at s.table.at s.table.count some s.low c.keep.new.self.at c.args.keeps.now c.keep.ensures.each;
+    }
 
 pub returns : goal.returns
 returns c =

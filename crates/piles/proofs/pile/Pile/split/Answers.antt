@@ -1,11 +1,11 @@
-use Rattle.std.proofs.Common.{◌≡◌, ◌<◌, ◌≤◌, length, ◌∙◌, arith, length-set}
+use Rattle.std.proofs.Common.{◌<◌, ◌≤◌, length, ◌∙◌, arith, length-set}
 use Rattle.piles.specs.declared.pile.Split.{Split}
 use Rattle.piles.proofs.Heights.{length_cases}
 use Rattle.piles.proofs.Views.{split-view, split-low-view}
 use Rattle.piles.proofs.pile.Pile.split.Goals as goal
 
-pub invariant-of-self : goal.invariant-of-self
-invariant-of-self c =
+pub invariant_of-self : goal.invariant_of-self
+invariant_of-self c =
     let s = c.args.self.now in
     let arcs = c.args.arcs.now in
     let e = length_cases arcs s.marks.at s.table.at s.table.count in
@@ -13,7 +13,12 @@ invariant-of-self c =
     let room : s.table.count < 1024 = omega (arith, c.requires.room, e) in
     let long : s.table.count ≤ length s.table.at = omega (arith, s.recorded) in
     let x : Split = record { place = c.args.place; routes = c.args.routes } in
-    (c.cut.ensures.long, (length-set _ _ _ ∙ s.recorded, (omega arith, (split-low-view arcs s.marks.at s.table.at s.table.count some s.low x c.cut.new.self.at long c.cut.ensures.each, tt))))
+    record {
+      marked = c.cut.ensures.long;
+      recorded = length-set _ _ _ ∙ s.recorded;
+      within = omega arith;
+      low = split-low-view arcs s.marks.at s.table.at s.table.count some s.low x c.cut.new.self.at long c.cut.ensures.each;
+    }
 
 pub returns : goal.returns
 returns c =

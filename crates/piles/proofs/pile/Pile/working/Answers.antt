@@ -9,6 +9,6 @@ returns c =
     let arcs = c.args.arcs.now in
     let some : 0 < s.table.count = omega (arith, c.requires.some, length_cases arcs s.marks.at s.table.at s.table.count) in
     record {
-      long = c.standing.auto.out ∙ c.none-standing-out.ensures.long;
+      long = c.standing.auto.out ∙ c.none_standing-out.ensures.long;
       each = λ a. c.standing.ensures a ∙ working_view arcs s.marks.at s.table.at s.table.count some s.low a;
     }
