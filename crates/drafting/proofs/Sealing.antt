@@ -1,5 +1,5 @@
 -- What is drafted is a chart in range, after every form. Assumes nothing.
-use Rattle.std.proofs.Common.{◌≡◌, ℕ, ◌<◌, Bool, true, false, not, ◌&&◌, eqb, List, [], ◌∷◌, ◌++◌, length, Some, None, Option, sym, refl, subst, inl, inr, arith}
+use Rattle.std.proofs.Common.{◌≡◌, ℕ, ◌<◌, Bool, true, false, not, ◌&&◌, eqb, ltb, ◌+◌, List, [], ◌∷◌, ◌++◌, length, Some, None, Option, sym, refl, subst, inl, inr, arith}
 use Rattle.std.proofs.lemmas.List.{length_push, get_or_push, get_or_append_left}
 use Rattle.std.proofs.lemmas.Bool.{cases_Bool, cases_lt, not-false, and_parts, or_parts, ltb-false, leb-true, leb-false, eqb-true, eq-eqb, both_ways}
 use Rattle.terms.specs.declared.arc.Arc.{Arc}
@@ -23,6 +23,10 @@ no_row : (b : Bool) (e : Refusal) (rest : Option Refusal) → or_else (when b e)
 no_row true e rest h = absurd (let z : ◌≡◌ {A = ℕ} 0 1 = cc in omega arith)
 no_row false e rest h = (refl, h)
 
+-- a number that is not above m
+not_above : (m n : ℕ) → ltb m n ≡ false → n < m + 1
+not_above m n e = omega (arith, ltb-false m n e)
+
 -- an arc that no row refuses is in range
 arc_fits : (d : Layout) (x : NewArc) → arc_rows d x ≡ None → ArcInRange d.places (as_arc x) × (length d.arcs < 1024)
 arc_fits d x none =
@@ -37,10 +41,10 @@ arc_fits d x none =
     let ends = or_parts _ _ nodes.1 in (
       record {
         placed = (leb-true 1 x.place place.0, leb-true x.place d.places place.1);
-        noded = (omega (arith, ltb-false 31 x.start above.0), omega (arith, ltb-false 31 x.end above.1));
+        noded = (not_above 31 x.start above.0, not_above 31 x.end above.1);
         rooted = λ e. at_zero x.place 1 x.start ends.0 e;
         ended = λ e. at_zero x.place d.places x.end ends.1 e;
-        ranged = (omega (arith, ltb-false 63 x.route three.0), omega (arith, ltb-false 10000 x.minutes four.0));
+        ranged = (not_above 63 x.route three.0, ltb-false 10000 x.minutes four.0);
       },
       leb-false 1024 (length d.arcs) five.0,
     )
