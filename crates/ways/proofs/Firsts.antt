@@ -3,7 +3,7 @@ use Rattle.std.proofs.Common.{◌≡◌, ℕ, suc, ◌+◌, ◌-◌, ◌<◌, �
 use lib.Signed.{lt_z}
 use Rattle.std.proofs.lemmas.Int.{ints}
 use Rattle.std.proofs.lemmas.Bool.{and_parts, and_from, cases_order}
-use Rattle.std.specs.List.{AllByRecursion as All}
+use Rattle.std.specs.List.{AllByRecursion}
 use Rattle.terms.specs.declared.arc.Arc.{Arc}
 use Rattle.plans.specs.Arcs.{arc_at, Sealed}
 use Rattle.plans.specs.Plans.{next, Path, In, Before, backs, paths, Node}
@@ -26,7 +26,7 @@ use Rattle.ways.proofs.Picks.{Chooses, each_taken}
 use Rattle.ways.proofs.Levels.{root_node, end_node, amount_narrow, taken, traced_reaches}
 
 -- what holds of each image holds of the image of a member
-all_at : {A : Type 0} (P : A → Type 0) (f : List ℕ → A) (q : List ℕ) (ps : List (List ℕ)) → All P (map f ps) → In q ps → P (f q)
+all_at : {A : Type 0} (P : A → Type 0) (f : List ℕ → A) (q : List ℕ) (ps : List (List ℕ)) → AllByRecursion P (map f ps) → In q ps → P (f q)
 all_at P f q [] a m = absurd m
 all_at P f q (p ∷ ps) (h, hs) (inl e) = subst (λ x. P (f x)) (sym e) h
 all_at P f q (p ∷ ps) (h, hs) (inr m) = all_at P f q ps hs m

@@ -1,6 +1,6 @@
 -- The arcs that attain a joining, for a tally that chooses. Assumes nothing.
 use Rattle.std.proofs.Common.{◌≡◌, ℕ, zero, suc, ◌<◌, ◌≤◌, Bool, true, false, cond, ◌&&◌, eqb, ◌⊎◌, List, [], ◌∷◌, ℤ, nat_abs, sym, refl, ap, ◌∙◌, subst, inl, inr, ⊎_elim, arith}
-use Rattle.std.specs.List.{AllByRecursion as All}
+use Rattle.std.specs.List.{AllByRecursion}
 use Rattle.std.proofs.ByRecursion.{All-weaker}
 use Rattle.std.proofs.lemmas.Bool.{cases_eq, false≢true}
 use Rattle.terms.specs.declared.arc.Arc.{Arc}
@@ -31,7 +31,7 @@ module _ {X A : Type 0} (t : Ghosts X A) (laws : Lawful t) (chooses : Chooses t)
   taken_in a b j e =
       sym (laws.assoc b a j) ∙ ap (λ x. t.joins x j) (laws.comm b a) ∙ laws.assoc a b j ∙ ap (t.joins a) e
 
-  pub each_taken : (xs : List A) → All (λ a. t.joins a (joining t xs) ≡ joining t xs) xs
+  pub each_taken : (xs : List A) → AllByRecursion (λ a. t.joins a (joining t xs) ≡ joining t xs) xs
   each_taken [] = tt
   each_taken (a ∷ xs) =
       (sym (laws.assoc a a (joining t xs)) ∙ ap (λ x. t.joins x (joining t xs)) (idem a), All-weaker (λ b. t.joins b (joining t xs) ≡ joining t xs) (λ b. t.joins b (t.joins a (joining t xs)) ≡ t.joins a (joining t xs)) (λ b e. taken_in a b (joining t xs) e) xs (each_taken xs))

@@ -1,6 +1,6 @@
 -- What the laws of a tally give of the joinings over the ways of a sweep. Assumes nothing.
 use Rattle.std.proofs.Common.{◌≡◌, ℕ, zero, suc, ◌+◌, ◌*◌, ◌<◌, ◌≤◌, Bool, true, false, cond, ◌&&◌, eqb, List, [], ◌∷◌, ◌++◌, map, length, ℤ, nat_abs, sym, refl, ap, ◌∙◌, arith}
-use Rattle.std.specs.List.{AllByRecursion as All}
+use Rattle.std.specs.List.{AllByRecursion}
 use Rattle.std.proofs.lemmas.List.{map-append}
 use Rattle.std.proofs.ByRecursion.{All-append, All-map}
 use Rattle.std.proofs.lemmas.Bool.{eq-eqb, false≢true}
@@ -37,12 +37,12 @@ module _ {X A : Type 0} (t : Ghosts X A) (laws : Lawful t) where
   joining-append [] ys = sym (laws.neutral (joining t ys))
   joining-append (a ∷ xs) ys = ap (t.joins a) (joining-append xs ys) ∙ sym (laws.assoc a (joining t xs) (joining t ys))
 
-  pub joining_small : (b : ℕ) → slight ≤ b → (xs : List A) → All (λ a. t.size a ≤ b) xs → t.size (joining t xs) ≤ b
+  pub joining_small : (b : ℕ) → slight ≤ b → (xs : List A) → AllByRecursion (λ a. t.size a ≤ b) xs → t.size (joining t xs) ≤ b
   joining_small b h [] _ = omega (arith, laws.nothing_small)
   joining_small b h (a ∷ xs) (s, rest) = omega (arith, joining_small b h xs rest, laws.joins_small a (joining t xs))
 
   -- an extension goes over a whole list
-  pub extends_joining : (p : ℤ) → nat_abs p < wide → (b : ℕ) → slight ≤ b → b < wide → (xs : List A) → All (λ a. t.size a ≤ b) xs → t.extends (joining t xs) p ≡ joining t (map (λ a. t.extends a p) xs)
+  pub extends_joining : (p : ℤ) → nat_abs p < wide → (b : ℕ) → slight ≤ b → b < wide → (xs : List A) → AllByRecursion (λ a. t.size a ≤ b) xs → t.extends (joining t xs) p ≡ joining t (map (λ a. t.extends a p) xs)
   extends_joining p hp b h w [] _ = laws.absorbs p hp
   extends_joining p hp b h w (a ∷ xs) (s, rest) =
       laws.distributes a (joining t xs) p (omega arith) (omega (arith, joining_small b h xs rest)) hp ∙ ap (t.joins (t.extends a p)) (extends_joining p hp b h w xs rest)
@@ -50,7 +50,7 @@ module _ {X A : Type 0} (t : Ghosts X A) (laws : Lawful t) where
   module _ {Y : Type 0} (h : Directed Y) (n : ℕ) (arcs : List Arc) (s : Case) (price : ℕ → ℤ) (small : (a : ℕ) → nat_abs (price a) ≤ steep) where
     -- no way of k steps has an amount larger than the bound
     abbrev Fine : ℕ → List (List ℕ) → Type 0
-    Fine k ps = All (λ p. t.size (along_back t price p) ≤ bound k) ps
+    Fine k ps = AllByRecursion (λ p. t.size (along_back t price p) ≤ bound k) ps
 
     longer-fine : (k i : ℕ) → k < 32 → (ps : List (List ℕ)) → Fine k ps → Fine (suc k) (map (λ p. i ∷ p) ps)
     longer-fine k i l [] _ = tt
@@ -66,7 +66,7 @@ module _ {X A : Type 0} (t : Ghosts X A) (laws : Lawful t) where
         chosen true = longer-fine k i l (before (h.near (arc_at arcs i))) (fine (h.near (arc_at arcs i)))
         chosen false = tt
 
-    pub ways-fine : (k v : ℕ) → k ≤ 32 → All (λ p. t.size (along_back t price p) ≤ bound k) (ways h n arcs s k v)
+    pub ways-fine : (k v : ℕ) → k ≤ 32 → AllByRecursion (λ p. t.size (along_back t price p) ≤ bound k) (ways h n arcs s k v)
     ways-fine zero v l = root (eqb v 0)
       where
         root : (b : Bool) → Fine 0 (cond b ([] ∷ []) [])
@@ -75,7 +75,7 @@ module _ {X A : Type 0} (t : Ghosts X A) (laws : Lawful t) where
     ways-fine (suc k) v l = gathered-fine k v l (ways h n arcs s k) (λ u. ways-fine k u (omega arith)) (length arcs)
 
     -- the amounts of a list of ways
-    amounts-fine : (k : ℕ) (ps : List (List ℕ)) → Fine k ps → All (λ a. t.size a ≤ bound k) (map (along_back t price) ps)
+    amounts-fine : (k : ℕ) (ps : List (List ℕ)) → Fine k ps → AllByRecursion (λ a. t.size a ≤ bound k) (map (along_back t price) ps)
     amounts-fine k ps z = All-map (λ a. t.size a ≤ bound k) (along_back t price) ps z
 
     -- no joining over the ways of k steps is larger than the bound
