@@ -11,30 +11,30 @@ use Rattle.amounts.specs.Laws.{PricedBySum}
 use Rattle.amounts.proofs.Products.{swap, product_add, product_neg}
 
 -- what the rules charge for no arcs is the limits' share
-pub charge-none : (arcs : List Arc) (us : List Rule) (zs : List ℤ) → charge arcs us zs [] ≡ owed us zs
-charge-none arcs [] zs = refl
-charge-none arcs (u ∷ us) [] = refl
-charge-none arcs (u ∷ us) (z ∷ zs) =
-    ap₂ ◌+ℤ◌ (ap (λ x. z *ℤ x) (+ℤ_idl (neg_ℤ u.limit)) ∙ product_neg z u.limit) (charge-none arcs us zs)
+pub charge_none : (arcs : List Arc) (us : List Rule) (zs : List ℤ) → charge arcs us zs [] ≡ owed us zs
+charge_none arcs [] zs = refl
+charge_none arcs (u ∷ us) [] = refl
+charge_none arcs (u ∷ us) (z ∷ zs) =
+    ap₂ ◌+ℤ◌ (ap (λ x. z *ℤ x) (+ℤ_idl (neg_ℤ u.limit)) ∙ product_neg z u.limit) (charge_none arcs us zs)
 
 -- one arc more is charged what its place and route are worth
-pub charge-more : (arcs : List Arc) (us : List Rule) (zs : List ℤ) (a : ℕ) (p : List ℕ) → charge arcs us zs (a ∷ p) ≡ worth us zs (arc_at arcs a).place (arc_at arcs a).route +ℤ charge arcs us zs p
-charge-more arcs [] zs a p = refl
-charge-more arcs (u ∷ us) [] a p = refl
-charge-more arcs (u ∷ us) (z ∷ zs) a p =
+pub charge_more : (arcs : List Arc) (us : List Rule) (zs : List ℤ) (a : ℕ) (p : List ℕ) → charge arcs us zs (a ∷ p) ≡ worth us zs (arc_at arcs a).place (arc_at arcs a).route +ℤ charge arcs us zs p
+charge_more arcs [] zs a p = refl
+charge_more arcs (u ∷ us) [] a p = refl
+charge_more arcs (u ∷ us) (z ∷ zs) a p =
     let w = u.weight (arc_at arcs a).place (arc_at arcs a).route in
     ap₂ ◌+ℤ◌
     (ap (λ x. z *ℤ x) (+ℤ_assoc w (weighed arcs u p) (neg_ℤ u.limit)) ∙ product_add z w (total arcs u p))
-    (charge-more arcs us zs a p)
+    (charge_more arcs us zs a p)
     ∙ swap (z *ℤ w) (z *ℤ total arcs u p) (worth us zs (arc_at arcs a).place (arc_at arcs a).route) (charge arcs us zs p)
 
 -- so the limits enter once
 pub priced_by_sum : PricedBySum
-priced_by_sum t zs [] = ap (λ x. pos 0 +ℤ x) (charge-none t.arcs t.rules zs)
+priced_by_sum t zs [] = ap (λ x. pos 0 +ℤ x) (charge_none t.arcs t.rules zs)
 priced_by_sum t zs (a ∷ p) =
     let x = arc_at t.arcs a in
     let c = cost t.arcs p in
-    ap₂ ◌+ℤ◌ (ap pos (mul-add 1000 x.minutes c)) (charge-more t.arcs t.rules zs a p)
+    ap₂ ◌+ℤ◌ (ap pos (mul-add 1000 x.minutes c)) (charge_more t.arcs t.rules zs a p)
     ∙ swap (pos (1000 * x.minutes)) (pos (1000 * c)) (worth t.rules zs x.place x.route) (charge t.arcs t.rules zs p)
     ∙ ap (λ y. arc_price t.rules zs x +ℤ y) (priced_by_sum t zs p)
     ∙ sym (+ℤ_assoc (arc_price t.rules zs x) (price_sum t zs p) (owed t.rules zs))

@@ -25,11 +25,11 @@ module _ (m w : ℤ) (a : nat_abs m ≤ 1_000_000_000) (b : nat_abs w ≤ 1_000_
   minus = ap (λ x. pos 0 -ℤ x) product_is ∙ +ℤ_idl (neg_ℤ (m *ℤ w))
 
   -- the same with its sign turned
-  pub minus-fits : SFits w64 (pos 0 -ℤ to_z w64 (of_z w64 (to_z w64 (of_z w64 m) *ℤ to_z w64 (of_z w64 w))))
-  minus-fits = subst (SFits w64) (sym minus) (fits (neg_ℤ (m *ℤ w)) 1_000_000_000_000_000 (omega (arith, size, neg_size (m *ℤ w))) (omega arith))
+  pub minus_fits : SFits w64 (pos 0 -ℤ to_z w64 (of_z w64 (to_z w64 (of_z w64 m) *ℤ to_z w64 (of_z w64 w))))
+  minus_fits = subst (SFits w64) (sym minus) (fits (neg_ℤ (m *ℤ w)) 1_000_000_000_000_000 (omega (arith, size, neg_size (m *ℤ w))) (omega arith))
 
   pub minus_is : to_z w64 (of_z w64 (pos 0 -ℤ to_z w64 (of_z w64 (to_z w64 (of_z w64 m) *ℤ to_z w64 (of_z w64 w))))) ≡ neg_ℤ (m *ℤ w)
-  minus_is = to_z-of_z w64 _ minus-fits ∙ minus
+  minus_is = to_z-of_z w64 _ minus_fits ∙ minus
 
 -- one more in a running sum x, whose bits are b
 module _ (b : ℕ) (x y : ℤ) (n : ℕ) (is : to_z w64 b ≡ x) (small : nat_abs y ≤ 1_000_000_000_000_000) (both : nat_abs (x +ℤ y) ≤ n) (few : n < 2 ^ 63) where

@@ -13,8 +13,8 @@ use Rattle.amounts.specs.Amounts.{worth, owed, arc_price, price_sum}
 use Rattle.amounts.specs.Sums.{sum_to, worth_of, owed_of}
 use Rattle.amounts.specs.Laws.{AmountsSmall}
 use Rattle.amounts.proofs.Exchange.{priced_by_sum}
-use Rattle.amounts.proofs.Lowest.{fair-length, fair_at, fair-size}
-use Rattle.amounts.proofs.Sums.{worth-sum, owed-sum}
+use Rattle.amounts.proofs.Lowest.{fair_length, fair_at, fair_size}
+use Rattle.amounts.proofs.Sums.{worth_sum, owed_sum}
 
 pub neg_size : (a : ℤ) → nat_abs (neg_ℤ a) ≡ nat_abs a
 neg_size (pos zero) = refl
@@ -42,25 +42,25 @@ pub within_size : (n : ℕ) (z : ℤ) → Within n z → nat_abs z ≤ n
 within_size n z w = omega (arith, ints, w.0, w.1)
 
 -- a sum of n numbers, each at most b in size
-pub sum-size : (f : ℕ → ℤ) (b n : ℕ) → ((r : ℕ) → r < n → nat_abs (f r) ≤ b) → nat_abs (sum_to f n) ≤ n * b
-sum-size f b zero h = omega arith
-sum-size f b (suc n) h =
-    omega (arith, add_size (sum_to f n) (f n), sum-size f b n (λ r l. h r (omega arith)), h n (omega arith), suc-mul n b)
+pub sum_size : (f : ℕ → ℤ) (b n : ℕ) → ((r : ℕ) → r < n → nat_abs (f r) ≤ b) → nat_abs (sum_to f n) ≤ n * b
+sum_size f b zero h = omega arith
+sum_size f b (suc n) h =
+    omega (arith, add_size (sum_to f n) (f n), sum_size f b n (λ r l. h r (omega arith)), h n (omega arith), suc-mul n b)
 
 -- a place from 1 to 32 and a route from 0 to 63
-pub on-grid : (place route : ℕ) → 1 ≤ place → place ≤ 32 → route ≤ 63 → on_grid place route ≡ true
-on-grid place route a b c = and_from _ _ (and_from _ _ (le-leb 1 place a) (le-leb place 32 b)) (le-leb route 63 c)
+pub on_grid_lem : (place route : ℕ) → 1 ≤ place → place ≤ 32 → route ≤ 63 → on_grid place route ≡ true
+on_grid_lem place route a b c = and_from _ _ (and_from _ _ (le-leb 1 place a) (le-leb place 32 b)) (le-leb route 63 c)
 
 -- the sizes of a chart's arcs, as far as prices need them
 pub arc_grid : (n : ℕ) (arcs : List Arc) → Sealed n arcs → (a : ℕ) → a < length arcs → on_grid (arc_at arcs a).place (arc_at arcs a).route ≡ true
 arc_grid n arcs s a l =
     let x = s.arc a l in
-    on-grid (arc_at arcs a).place (arc_at arcs a).route x.placed.0 (omega (arith, x.placed.1, s.few)) (omega (arith, x.ranged.0))
+    on_grid_lem (arc_at arcs a).place (arc_at arcs a).route x.placed.0 (omega (arith, x.placed.1, s.few)) (omega (arith, x.ranged.0))
 
 module _ (us : List Rule) (zs : List ℤ) (range : InRange us) (f : Fair us zs) where
   -- the multiplier of a rule
   pub multiplier_size : (r : ℕ) → r < length us → nat_abs (get_or zs r (pos 0)) ≤ 1_000_000_000
-  multiplier_size r l = fair-size (get_or us r no_rule).sense (get_or zs r (pos 0)) (fair_at us zs f r l)
+  multiplier_size r l = fair_size (get_or us r no_rule).sense (get_or zs r (pos 0)) (fair_at us zs f r l)
 
   -- one rule's parts
   pub worth_of_size : (place route r : ℕ) → on_grid place route ≡ true → r < length us → nat_abs (worth_of us zs place route r) ≤ 10_000_000_000_000
@@ -72,39 +72,39 @@ module _ (us : List Rule) (zs : List ℤ) (range : InRange us) (f : Fair us zs) 
       rw (neg_size (get_or zs r (pos 0) *ℤ (get_or us r no_rule).limit)) (product_size (get_or zs r (pos 0)) (get_or us r no_rule).limit 1_000_000_000 1_000_000 (multiplier_size r l) (within_size 1_000_000 _ (range r l).limit))
 
   -- the parts of the first n rules
-  pub worth-front-size : (place route n : ℕ) → on_grid place route ≡ true → n ≤ length us → nat_abs (sum_to (worth_of us zs place route) n) ≤ n * 10_000_000_000_000
-  worth-front-size place route n g l = sum-size (worth_of us zs place route) 10_000_000_000_000 n (λ r h. worth_of_size place route r g (omega arith))
+  pub worth_front_size : (place route n : ℕ) → on_grid place route ≡ true → n ≤ length us → nat_abs (sum_to (worth_of us zs place route) n) ≤ n * 10_000_000_000_000
+  worth_front_size place route n g l = sum_size (worth_of us zs place route) 10_000_000_000_000 n (λ r h. worth_of_size place route r g (omega arith))
 
-  pub owed-front-size : (n : ℕ) → n ≤ length us → nat_abs (sum_to (owed_of us zs) n) ≤ n * 1_000_000_000_000_000
-  owed-front-size n l = sum-size (owed_of us zs) 1_000_000_000_000_000 n (λ r h. owed_of_size r (omega arith))
+  pub owed_front_size : (n : ℕ) → n ≤ length us → nat_abs (sum_to (owed_of us zs) n) ≤ n * 1_000_000_000_000_000
+  owed_front_size n l = sum_size (owed_of us zs) 1_000_000_000_000_000 n (λ r h. owed_of_size r (omega arith))
 
   -- the price of an arc as far as the first n rules make it
   pub price_front_size : (x : Arc) (n : ℕ) → on_grid x.place x.route ≡ true → x.minutes ≤ 10_000 → n ≤ length us → nat_abs (pos (1000 * x.minutes) +ℤ sum_to (worth_of us zs x.place x.route) n) ≤ 10_000_000 + n * 10_000_000_000_000
   price_front_size x n g m l =
-      omega (arith, add_size (pos (1000 * x.minutes)) (sum_to (worth_of us zs x.place x.route) n), worth-front-size x.place x.route n g l)
+      omega (arith, add_size (pos (1000 * x.minutes)) (sum_to (worth_of us zs x.place x.route) n), worth_front_size x.place x.route n g l)
 
   module _ (few : length us ≤ 128) where
     -- what a place and a route are worth, and the limits' share
-    pub worth-size : (place route : ℕ) → on_grid place route ≡ true → nat_abs (worth us zs place route) ≤ 1_280_000_000_000_000
-    worth-size place route g =
-        rw (worth-sum us zs place route (fair-length us zs f)) (omega (arith, worth-front-size place route (length us) g (omega arith)))
+    pub worth_size : (place route : ℕ) → on_grid place route ≡ true → nat_abs (worth us zs place route) ≤ 1_280_000_000_000_000
+    worth_size place route g =
+        rw (worth_sum us zs place route (fair_length us zs f)) (omega (arith, worth_front_size place route (length us) g (omega arith)))
 
-    pub owed-size : nat_abs (owed us zs) ≤ 128_000_000_000_000_000
-    owed-size = rw (owed-sum us zs (fair-length us zs f)) (omega (arith, owed-front-size (length us) (omega arith)))
+    pub owed_size : nat_abs (owed us zs) ≤ 128_000_000_000_000_000
+    owed_size = rw (owed_sum us zs (fair_length us zs f)) (omega (arith, owed_front_size (length us) (omega arith)))
 
     -- an arc's price
-    pub price-size : (x : Arc) → on_grid x.place x.route ≡ true → x.minutes ≤ 10_000 → nat_abs (arc_price us zs x) ≤ 1_280_000_010_000_000
-    price-size x g m = omega (arith, add_size (pos (1000 * x.minutes)) (worth us zs x.place x.route), worth-size x.place x.route g)
+    pub price_size : (x : Arc) → on_grid x.place x.route ≡ true → x.minutes ≤ 10_000 → nat_abs (arc_price us zs x) ≤ 1_280_000_010_000_000
+    price_size x g m = omega (arith, add_size (pos (1000 * x.minutes)) (worth us zs x.place x.route), worth_size x.place x.route g)
 
     -- the sums over the first n rules fit 64 bits
-    pub worth-front-fits : (place route n : ℕ) → on_grid place route ≡ true → n ≤ length us → SFits w64 (sum_to (worth_of us zs place route) n)
-    worth-front-fits place route n g l = fits _ 1_280_000_000_000_000 (omega (arith, worth-front-size place route n g l)) (omega arith)
+    pub worth_front_fits : (place route n : ℕ) → on_grid place route ≡ true → n ≤ length us → SFits w64 (sum_to (worth_of us zs place route) n)
+    worth_front_fits place route n g l = fits _ 1_280_000_000_000_000 (omega (arith, worth_front_size place route n g l)) (omega arith)
 
-    pub price-front-fits : (x : Arc) (n : ℕ) → on_grid x.place x.route ≡ true → x.minutes ≤ 10_000 → n ≤ length us → SFits w64 (pos (1000 * x.minutes) +ℤ sum_to (worth_of us zs x.place x.route) n)
-    price-front-fits x n g m l = fits _ 1_280_000_010_000_000 (omega (arith, price_front_size x n g m l)) (omega arith)
+    pub price_front_fits : (x : Arc) (n : ℕ) → on_grid x.place x.route ≡ true → x.minutes ≤ 10_000 → n ≤ length us → SFits w64 (pos (1000 * x.minutes) +ℤ sum_to (worth_of us zs x.place x.route) n)
+    price_front_fits x n g m l = fits _ 1_280_000_010_000_000 (omega (arith, price_front_size x n g m l)) (omega arith)
 
-    pub owed-front-fits : (n : ℕ) → n ≤ length us → SFits w64 (sum_to (owed_of us zs) n)
-    owed-front-fits n l = fits _ 128_000_000_000_000_000 (omega (arith, owed-front-size n l)) (omega arith)
+    pub owed_front_fits : (n : ℕ) → n ≤ length us → SFits w64 (sum_to (owed_of us zs) n)
+    owed_front_fits n l = fits _ 128_000_000_000_000_000 (omega (arith, owed_front_size n l)) (omega arith)
 
 -- the prices of some arcs of a chart
 pub prices_size : (t : Problem) (zs : List ℤ) (b : ℕ) → ((a : ℕ) → a < length t.arcs → nat_abs (arc_price t.rules zs (arc_at t.arcs a)) ≤ b) → (k v : ℕ) (p : List ℕ) → Path t.arcs k v p → nat_abs (price_sum t zs p) ≤ length p * b
@@ -117,16 +117,16 @@ prices_size t zs b h k v (a ∷ p) w =
 pub amounts_small : AmountsSmall
 amounts_small t s range few zs f = record {
   price = price;
-  share = owed-size t.rules zs range f few;
+  share = owed_size t.rules zs range f few;
   amount = λ p h.
       rw (priced_by_sum t zs p) (sum_below (price_sum t zs p) (owed t.rules zs) (length p)
       (prices_size t zs 1_280_000_010_000_000 price 1 0 p h.path)
       (omega (arith, h.long, s.few))
-      (owed-size t.rules zs range f few));
+      (owed_size t.rules zs range f few));
 }
   where
     price : (a : ℕ) → a < length t.arcs → nat_abs (arc_price t.rules zs (arc_at t.arcs a)) ≤ 1_280_000_010_000_000
-    price a l = price-size t.rules zs range f few (arc_at t.arcs a) (arc_grid t.places t.arcs s a l) (s.arc a l).ranged.1
+    price a l = price_size t.rules zs range f few (arc_at t.arcs a) (arc_grid t.places t.arcs s a l) (s.arc a l).ranged.1
 
     sum_below : (x y : ℤ) (n : ℕ) → nat_abs x ≤ n * 1_280_000_010_000_000 → n ≤ 32 → nat_abs y ≤ 128_000_000_000_000_000 → nat_abs (x +ℤ y) < 200_000_000_000_000_000
     sum_below x y n h l g = omega (arith, add_size x y)

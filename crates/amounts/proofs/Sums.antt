@@ -20,15 +20,15 @@ sum_first f zero = +ℤ_idl (f 0) ∙ sym (+ℤ_idr (f 0))
 sum_first f (suc n) = ap (λ x. x +ℤ f (suc n)) (sum_first f n) ∙ +ℤ_assoc (f 0) (sum_to (λ r. f (suc r)) n) (f (suc n))
 
 -- what a place and a route are worth is the sum of the rules' parts in it
-pub worth-sum : (us : List Rule) (zs : List ℤ) (place route : ℕ) → length zs ≡ length us → worth us zs place route ≡ sum_to (worth_of us zs place route) (length us)
-worth-sum [] zs place route e = refl
-worth-sum (u ∷ us) [] place route e = absurd (omega arith)
-worth-sum (u ∷ us) (z ∷ zs) place route e =
-    ap (λ x. (z *ℤ u.weight place route) +ℤ x) (worth-sum us zs place route (omega arith)) ∙ sym (sum_first (worth_of (u ∷ us) (z ∷ zs) place route) (length us))
+pub worth_sum : (us : List Rule) (zs : List ℤ) (place route : ℕ) → length zs ≡ length us → worth us zs place route ≡ sum_to (worth_of us zs place route) (length us)
+worth_sum [] zs place route e = refl
+worth_sum (u ∷ us) [] place route e = absurd (omega arith)
+worth_sum (u ∷ us) (z ∷ zs) place route e =
+    ap (λ x. (z *ℤ u.weight place route) +ℤ x) (worth_sum us zs place route (omega arith)) ∙ sym (sum_first (worth_of (u ∷ us) (z ∷ zs) place route) (length us))
 
 -- the limits' share is the sum of the rules' parts in it
-pub owed-sum : (us : List Rule) (zs : List ℤ) → length zs ≡ length us → owed us zs ≡ sum_to (owed_of us zs) (length us)
-owed-sum [] zs e = refl
-owed-sum (u ∷ us) [] e = absurd (omega arith)
-owed-sum (u ∷ us) (z ∷ zs) e =
-    ap (λ x. neg_ℤ (z *ℤ u.limit) +ℤ x) (owed-sum us zs (omega arith)) ∙ sym (sum_first (owed_of (u ∷ us) (z ∷ zs)) (length us))
+pub owed_sum : (us : List Rule) (zs : List ℤ) → length zs ≡ length us → owed us zs ≡ sum_to (owed_of us zs) (length us)
+owed_sum [] zs e = refl
+owed_sum (u ∷ us) [] e = absurd (omega arith)
+owed_sum (u ∷ us) (z ∷ zs) e =
+    ap (λ x. neg_ℤ (z *ℤ u.limit) +ℤ x) (owed_sum us zs (omega arith)) ∙ sym (sum_first (owed_of (u ∷ us) (z ∷ zs)) (length us))

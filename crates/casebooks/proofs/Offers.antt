@@ -13,12 +13,12 @@ use Rattle.charts.specs.Drafts.{arc_numbered}
 use Rattle.judging.specs.Calls.{stray}
 
 -- one arc more at the end of a plan
-cost-push : (arcs : List Arc) (p : List ℕ) (a : ℕ) → cost arcs (p ++ a ∷ []) ≡ cost arcs p + (arc_at arcs a).minutes
-cost-push arcs [] a = omega arith
-cost-push arcs (b ∷ p) a = omega (arith, cost-push arcs p a)
+cost_push : (arcs : List Arc) (p : List ℕ) (a : ℕ) → cost arcs (p ++ a ∷ []) ≡ cost arcs p + (arc_at arcs a).minutes
+cost_push arcs [] a = omega arith
+cost_push arcs (b ∷ p) a = omega (arith, cost_push arcs p a)
 
-pub cost-more : (arcs : List Arc) (p : List ℕ) (i : ℕ) → i < length p → cost arcs (take (i + 1) p) ≡ cost arcs (take i p) + (arc_at arcs (get_or p i 0)).minutes
-cost-more arcs p i l = ap (cost arcs) (take_more p i 0 l) ∙ cost-push arcs (take i p) (get_or p i 0)
+pub cost_more : (arcs : List Arc) (p : List ℕ) (i : ℕ) → i < length p → cost arcs (take (i + 1) p) ≡ cost arcs (take i p) + (arc_at arcs (get_or p i 0)).minutes
+cost_more arcs p i l = ap (cost arcs) (take_more p i 0 l) ∙ cost_push arcs (take i p) (get_or p i 0)
 
 -- what is known of an arc that is there, and of one that is not
 from_cond : {X : Type 0} (b : Bool) (x y : X) → Some x ≡ cond b (Some y) None → (b ≡ true) × (x ≡ y)
@@ -50,18 +50,18 @@ stray_end arcs p j k v h = ap (stray arcs k v) (drop_all j p h)
 
 -- one arc more in the sum of a rule's weights
 module _ (arcs : List Arc) (u : Rule) where
-  weighed-push : (p : List ℕ) (a : ℕ) → weighed arcs u (p ++ a ∷ []) ≡ weighed arcs u p +ℤ u.weight (arc_at arcs a).place (arc_at arcs a).route
-  weighed-push [] a = turn (u.weight (arc_at arcs a).place (arc_at arcs a).route)
+  weighed_push : (p : List ℕ) (a : ℕ) → weighed arcs u (p ++ a ∷ []) ≡ weighed arcs u p +ℤ u.weight (arc_at arcs a).place (arc_at arcs a).route
+  weighed_push [] a = turn (u.weight (arc_at arcs a).place (arc_at arcs a).route)
     where
       turn : (x : ℤ) → x +ℤ pos 0 ≡ pos 0 +ℤ x
       turn x = omega (arith, ints)
-  weighed-push (b ∷ p) a = ap (λ z. u.weight (arc_at arcs b).place (arc_at arcs b).route +ℤ z) (weighed-push p a) ∙ regroup (u.weight (arc_at arcs b).place (arc_at arcs b).route) (weighed arcs u p) (u.weight (arc_at arcs a).place (arc_at arcs a).route)
+  weighed_push (b ∷ p) a = ap (λ z. u.weight (arc_at arcs b).place (arc_at arcs b).route +ℤ z) (weighed_push p a) ∙ regroup (u.weight (arc_at arcs b).place (arc_at arcs b).route) (weighed arcs u p) (u.weight (arc_at arcs a).place (arc_at arcs a).route)
     where
       regroup : (x y z : ℤ) → x +ℤ (y +ℤ z) ≡ (x +ℤ y) +ℤ z
       regroup x y z = omega (arith, ints)
 
-  pub weighed-more : (p : List ℕ) (i : ℕ) → i < length p → weighed arcs u (take (i + 1) p) ≡ weighed arcs u (take i p) +ℤ u.weight (arc_at arcs (get_or p i 0)).place (arc_at arcs (get_or p i 0)).route
-  weighed-more p i l = ap (weighed arcs u) (take_more p i 0 l) ∙ weighed-push (take i p) (get_or p i 0)
+  pub weighed_more : (p : List ℕ) (i : ℕ) → i < length p → weighed arcs u (take (i + 1) p) ≡ weighed arcs u (take i p) +ℤ u.weight (arc_at arcs (get_or p i 0)).place (arc_at arcs (get_or p i 0)).route
+  weighed_more p i l = ap (weighed arcs u) (take_more p i 0 l) ∙ weighed_push (take i p) (get_or p i 0)
 
 -- the arcs of a connected plan are there
 pub path_there : (arcs : List Arc) (p : List ℕ) (k v : ℕ) → Path arcs k v p → (i : ℕ) → i < length p → get_or p i 0 < length arcs
@@ -80,8 +80,8 @@ module _ (w l : ℤ) (a : nat_abs w ≤ 320000) (b : nat_abs l ≤ 1000000) wher
   total_size : nat_abs (w -ℤ l) ≤ 1320000
   total_size = omega (arith, add_size w (neg_ℤ l), neg_size l)
 
-  pub total-fits : SFits w64 (to_z w64 (of_z w64 w) -ℤ to_z w64 (of_z w64 l))
-  total-fits = subst (SFits w64) (sym total_same) (fits (w -ℤ l) 1320000 total_size (omega arith))
+  pub total_fits : SFits w64 (to_z w64 (of_z w64 w) -ℤ to_z w64 (of_z w64 l))
+  total_fits = subst (SFits w64) (sym total_same) (fits (w -ℤ l) 1320000 total_size (omega arith))
 
   pub total_is : to_z w64 (of_z w64 (to_z w64 (of_z w64 w) -ℤ to_z w64 (of_z w64 l))) ≡ w -ℤ l
-  total_is = to_z-of_z w64 _ total-fits ∙ total_same
+  total_is = to_z-of_z w64 _ total_fits ∙ total_same

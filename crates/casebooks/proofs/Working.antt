@@ -8,7 +8,7 @@ use Rattle.rules.specs.Lawful.{Problem}
 use Rattle.ways.specs.Amounts.{marked}
 use Rattle.judging.specs.Cases.{Model, none_open}
 use Rattle.judging.specs.Calls.{multiplier_rows, too_many_rules, no_case, short_buffer, strike_rows, price_rows}
-use Rattle.judging.proofs.Rows.{or_none, when-none, multipliers_fair}
+use Rattle.judging.proofs.Rows.{or_none, when_none, multipliers_fair}
 use Rattle.through.specs.Pricings.{Priceable}
 
 -- marks that tell of each arc whether it is in a case are that case
@@ -40,7 +40,7 @@ some_open (s ∷ rest) e = omega arith
 -- no row on multipliers holds, so prices may be asked
 pub rows_asked : (t : Problem) (zs : List ℤ) → multiplier_rows t zs ≡ None → Priceable t.rules zs
 rows_asked t zs e = record {
-  few = ltb-false 128 (length t.rules) (when-none _ TooManyRules (or_none (too_many_rules t) _ e).0);
+  few = ltb-false 128 (length t.rules) (when_none _ TooManyRules (or_none (too_many_rules t) _ e).0);
   fair = multipliers_fair t zs e;
 }
 
@@ -48,11 +48,11 @@ rows_asked t zs e = record {
 pub strike_asked : (t : Problem) (m : Model) (zs : List ℤ) → strike_rows t m zs ≡ None → Priceable t.rules zs × (0 < length m.pile)
 strike_asked t m zs e =
     let r = or_none (multiplier_rows t zs) _ e in
-    (rows_asked t zs r.0, some_open m.pile (when-none _ NoCase (or_none (no_case m) _ r.1).0))
+    (rows_asked t zs r.0, some_open m.pile (when_none _ NoCase (or_none (no_case m) _ r.1).0))
 
 -- and there is room for a plan
 pub price_asked : (t : Problem) (m : Model) (zs : List ℤ) (room : List ℕ) → price_rows t m zs room ≡ None → Priceable t.rules zs × (0 < length m.pile) × (t.places ≤ length room)
 price_asked t m zs room e =
     let r = or_none (multiplier_rows t zs) _ e in
     let s = or_none (no_case m) _ r.1 in
-    (rows_asked t zs r.0, some_open m.pile (when-none _ NoCase s.0), ltb-false (length room) t.places (when-none _ ShortBuffer (or_none (short_buffer t room) _ s.1).0))
+    (rows_asked t zs r.0, some_open m.pile (when_none _ NoCase s.0), ltb-false (length room) t.places (when_none _ ShortBuffer (or_none (short_buffer t room) _ s.1).0))

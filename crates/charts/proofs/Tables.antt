@@ -13,8 +13,8 @@ each_more P t n a h old new =
     (λ i l. let ne : i ≢ n = omega arith in rw get_or-set_other (old i l))
     (rw get_or-set_same new)
 
-pub used-length : (c : Chart) → length (arcs_of c) ≡ c.table.count
-used-length c = omega (arith, length-take c.table.count c.table.at, c.long, c.within)
+pub used_length : (c : Chart) → length (arcs_of c) ≡ c.table.count
+used_length c = omega (arith, length-take c.table.count c.table.at, c.long, c.within)
 
 pub used_at : (c : Chart) (a : ℕ) → a < c.table.count → get_or c.table.at a no_arc ≡ arc_at (arcs_of c) a
 used_at c a h = sym (get_or-take c.table.count c.table.at a no_arc h)
@@ -24,8 +24,8 @@ pub sealed : (c : Chart) → Sealed (places_of c) (arcs_of c)
 sealed c = record {
   some = c.some;
   few = c.few;
-  count = omega (arith, used-length c, c.within);
+  count = omega (arith, used_length c, c.within);
   arc = λ a h.
-      let l : a < c.table.count = omega (arith, used-length c) in
+      let l : a < c.table.count = omega (arith, used_length c) in
       subst (ArcInRange c.places) (used_at c a l) (record { placed = c.placed a l; noded = c.noded a l; rooted = c.rooted a l; ended = c.ended a l; ranged = c.ranged a l });
 }

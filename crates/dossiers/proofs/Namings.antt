@@ -30,22 +30,22 @@ pub name_all : (found b : Bool) (zs ys : List ℤ) → both_of (found || false) 
 name_all found b zs ys e = (sym (or-false found) ∙ ap (λ (p : Bool × List ℤ). p.0) e, ap (λ (p : Bool × List ℤ). p.1) e)
 
 -- the first n multipliers, after one was named
-take-named : (n : ℕ) (zs : List ℤ) (i : ℕ) (z : ℤ) → take n (set zs i z) ≡ set (take n zs) i z
-take-named n zs i z =
+take_named : (n : ℕ) (zs : List ℤ) (i : ℕ) (z : ℤ) → take n (set zs i z) ≡ set (take n zs) i z
+take_named n zs i z =
     elim (cases_lt i n) [
       | inl h ↦ take-set-lt n zs i z h
       | inr h ↦ take-set-le n zs i z h ∙ sym (set_past (take n zs) i z (omega (arith, length-take n zs)))
     ]
 
 -- and after all were named
-pub take-naming : (n : ℕ) (zs : List ℤ) (xs : List (ℕ × ℤ)) → take n (naming zs xs) ≡ naming (take n zs) xs
-take-naming n zs [] = refl
-take-naming n zs (x ∷ xs) = take-naming n (set zs x.0 x.1) xs ∙ ap (λ (ys : List ℤ). naming ys xs) (take-named n zs x.0 x.1)
+pub take_naming : (n : ℕ) (zs : List ℤ) (xs : List (ℕ × ℤ)) → take n (naming zs xs) ≡ naming (take n zs) xs
+take_naming n zs [] = refl
+take_naming n zs (x ∷ xs) = take_naming n (set zs x.0 x.1) xs ∙ ap (λ (ys : List ℤ). naming ys xs) (take_named n zs x.0 x.1)
 
 -- the first n of 128 zeros with the pairs named are the multipliers named for n rules
 pub all_named : (n : ℕ) (zs ys : List ℤ) (xs : List (ℕ × ℤ)) → zs ≡ replicate 128 (pos 0) → ys ≡ naming zs xs → n ≤ 128 → take n ys ≡ named n xs
 all_named n zs ys xs e f h =
-    ap (λ (l : List ℤ). take n l) (f ∙ ap (λ (l : List ℤ). naming l xs) e) ∙ take-naming n (replicate 128 (pos 0)) xs
+    ap (λ (l : List ℤ). take n l) (f ∙ ap (λ (l : List ℤ). naming l xs) e) ∙ take_naming n (replicate 128 (pos 0)) xs
     ∙ ap (λ (l : List ℤ). naming l xs) (take-replicate n 128 (pos 0) h)
 
 -- no row refuses, where there are few rules and each pair names one
@@ -64,9 +64,9 @@ capped_causes n xs =
 pub few_rules : (n : ℕ) (xs : List (ℕ × ℤ)) → naming_causes n xs ≡ None → min n 129 ≡ n
 few_rules n xs e =
     elim (cases_lt 128 n) [
-      | inl h ↦ absurd (some-none (ap (λ (b : Bool). or_else (when b TooManyRules) (or_else (when (some (unknown n) xs) MultiplierCount) None)) (sym (lt-ltb 128 n h)) ∙ e))
+      | inl h ↦ absurd (some_none (ap (λ (b : Bool). or_else (when b TooManyRules) (or_else (when (some (unknown n) xs) MultiplierCount) None)) (sym (lt-ltb 128 n h)) ∙ e))
       | inr h ↦ omega arith
     ]
   where
-    some-none : {e : Refusal} → ◌≡◌ {A = Option Refusal} (Some e) None → ⊥
-    some-none p = let z : ◌≡◌ {A = ℕ} 0 1 = cc in omega arith
+    some_none : {e : Refusal} → ◌≡◌ {A = Option Refusal} (Some e) None → ⊥
+    some_none p = let z : ◌≡◌ {A = ℕ} 0 1 = cc in omega arith

@@ -10,7 +10,7 @@ use Rattle.rules.specs.Lawful.{Problem}
 use Rattle.judging.specs.Cases.{Model, opened}
 use Rattle.judging.specs.Calls.{Call, claim, price, sample, strike, trim, split, close, offer, verdict, after, run, on_price, on_strike, on_close}
 use Rattle.judging.specs.Theorem.{Posed, Meant}
-use Rattle.judging.proofs.Finish.{run-both}
+use Rattle.judging.proofs.Finish.{run_both}
 use Rattle.judging.proofs.Means.{verdict_means}
 use Rattle.lines.specs.Forms.{Form, Casebook, Places, Arc, Once, Order, Budget, Seal, Claim, Price, Sample, Strike, Trim, Split, Close, Offer, Verdict}
 use Rattle.drafting.specs.Items.{some, no_route, set_of}
@@ -98,9 +98,9 @@ abbrev Calls : Problem → Model → Model → Type 0
 Calls t m u = (more : List Call) × (u ≡ run t more m)
 
 -- a form with multipliers makes its call, or none where its rows refuse
-naming-calls : (t : Problem) (m : Model) (xs : List (ℕ × ℤ)) (o : List ℤ → Outcome Model Told) (call : List ℤ → Call)
+naming_calls : (t : Problem) (m : Model) (xs : List (ℕ × ℤ)) (o : List ℤ → Outcome Model Told) (call : List ℤ → Call)
     → ((zs : List ℤ) → (o zs).left ≡ after t m (call zs)) → Calls t m (naming t m xs o).left
-naming-calls t m xs o call same = go (naming_rows t xs) refl
+naming_calls t m xs o call same = go (naming_rows t xs) refl
   where
     go : (r : Option Refusal) → naming_rows t xs ≡ r → Calls t m (naming t m xs o).left
     go None e = (call (named (length t.rules) xs) ∷ [], rw e (same (named (length t.rules) xs)))
@@ -124,23 +124,23 @@ work_calls t m (Order earlier later) = ([], refl)
 work_calls t m (Budget limit xs) = ([], refl)
 work_calls t m Seal = ([], refl)
 work_calls t m (Claim n) = (claim n ∷ [], refl)
-work_calls t m (Price xs) = naming-calls t m xs (λ zs. pricing (on_price t m zs buffer)) (λ zs. price zs buffer) (λ zs. refl)
+work_calls t m (Price xs) = naming_calls t m xs (λ zs. pricing (on_price t m zs buffer)) (λ zs. price zs buffer) (λ zs. refl)
 work_calls t m Sample = (sample buffer ∷ [], refl)
-work_calls t m (Strike xs) = naming-calls t m xs (λ zs. counting (on_strike t m zs)) strike (λ zs. refl)
+work_calls t m (Strike xs) = naming_calls t m xs (λ zs. counting (on_strike t m zs)) strike (λ zs. refl)
 work_calls t m Trim = (trim ∷ [], refl)
 work_calls t m (Split place qs) = split_calls t m place qs
-work_calls t m (Close xs) = naming-calls t m xs (λ zs. counting (on_close t m zs)) close (λ zs. refl)
+work_calls t m (Close xs) = naming_calls t m xs (λ zs. counting (on_close t m zs)) close (λ zs. refl)
 work_calls t m (Offer arcs) = (offer arcs ∷ [], refl)
 work_calls t m Verdict = (verdict ∷ [], refl)
 
 -- more calls after calls that led from the opening
-more-calls : (t : Problem) (m u : Model) → (calls : List Call) × (m ≡ run t calls (opened t)) → Calls t m u → (calls : List Call) × (u ≡ run t calls (opened t))
-more-calls t m u (calls, e) (more, f) = (calls ++ more, f ∙ ap (λ (v : Model). run t more v) e ∙ sym (run-both t calls more (opened t)))
+more_calls : (t : Problem) (m u : Model) → (calls : List Call) × (m ≡ run t calls (opened t)) → Calls t m u → (calls : List Call) × (u ≡ run t calls (opened t))
+more_calls t m u (calls, e) (more, f) = (calls ++ more, f ∙ ap (λ (v : Model). run t more v) e ∙ sym (run_both t calls more (opened t)))
 
 -- after each form
 form_kept : (s : Stage) (f : Form) → Kept s → Kept (on_stage s f).left
 form_kept (Drafts d) f k = draft_kept d f k
-form_kept (Works t m) f (p, calls) = (p, more-calls t m _ calls (work_calls t m f))
+form_kept (Works t m) f (p, calls) = (p, more_calls t m _ calls (work_calls t m f))
 
 -- after each line
 line_kept : (s v : Stage) (l : List ℕ) (r : Result Told Refusal) → Kept s → Replies (on_stage s) s l r v → Kept v

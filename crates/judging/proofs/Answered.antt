@@ -11,13 +11,13 @@ use Rattle.plans.specs.Firsts.{foremost, amount_in, written, is_there}
 use Rattle.plans.specs.Words.{Iff, Meant}
 use Rattle.plans.proofs.Whole.{lt_z_true, lt_z_false, lt_lt_z}
 use Rattle.plans.proofs.Members.{those_in, those_out}
-use Rattle.plans.proofs.Standing.{stands_each, on_some_lem, some-on, in_stands, stands_in, cheapest-least, standing_means}
+use Rattle.plans.proofs.Standing.{stands_each, on_some_lem, some_on, in_stands, stands_in, cheapest_least, standing_means}
 use Rattle.rules.specs.Lawful.{Problem}
 use Rattle.amounts.specs.Amounts.{amount}
 use Rattle.judging.specs.Cases.{Model, mark, standing_in, first_plan, top, under, none_open}
 use Rattle.judging.specs.Calls.{multiplier_rows, no_case, Lent, lent, price_rows, price_done, on_price, sample_rows, sample_done, on_sample, keeping, below, cheaply, strike_rows, on_strike, trim_rows, on_trim, undercut, not_closed, close_done, on_close}
 use Rattle.judging.specs.Answers.{Accepted, Working, FirstPriced, AllMeet, AllThroughMeet, SomeBelow, SomeThroughBelow, lost, PriceMeans, SampleMeans, Removes, StrikeMeans, TrimMeans, CloseMeans, AnswersMean}
-use Rattle.judging.proofs.Rows.{decided_done, accepted-none, or_none, when-none}
+use Rattle.judging.proofs.Rows.{decided_done, accepted_none, or_none, when_none}
 use Rattle.judging.proofs.Uniform.{undercut_over}
 
 -- what is known of the plans that stand in the working case
@@ -41,7 +41,7 @@ price_means : (t : Problem) (m : Model) (zs : List ℤ) (room : List ℕ) → Ac
 price_means t m zs room h =
     let first = first_plan t zs (top m.pile) in
     let k = known t m (amount t zs) in
-    let e = decided_done (lent m room) (price_rows t m zs room) (price_done t m zs room) (accepted-none (lent m room) (price_rows t m zs room) (price_done t m zs room) h) in
+    let e = decided_done (lent m room) (price_rows t m zs room) (price_done t m zs room) (accepted_none (lent m room) (price_rows t m zs room) (price_done t m zs room) h) in
     let answer = ap (λ (o : Outcome Lent (Option ℤ)). o.answer) e in
     let buffer = ap (λ (o : Outcome Lent (Option ℤ)). o.left.buffer) e in
     record {
@@ -73,7 +73,7 @@ sample_means : (t : Problem) (m : Model) (room : List ℕ) → Accepted (on_samp
 sample_means t m room h =
     let first = foremost (standing_in t (top m.pile)) in
     let k = known t m (amount t []) in
-    let e = decided_done (lent m room) (sample_rows t m room) (sample_done t m room) (accepted-none (lent m room) (sample_rows t m room) (sample_done t m room) h) in
+    let e = decided_done (lent m room) (sample_rows t m room) (sample_done t m room) (accepted_none (lent m room) (sample_rows t m room) (sample_done t m room) h) in
     let answer = ap (λ (o : Outcome Lent Bool). o.answer) e in
     let buffer = ap (λ (o : Outcome Lent Bool). o.left.buffer) e in
     record {
@@ -96,9 +96,9 @@ size_same : (s r : Case) (n : ℕ) → ((a : ℕ) → s a ≡ r a) → size s n 
 size_same s r zero h = refl
 size_same s r (suc n) h = let e = size_same s r n h in let f = h n in cc
 
-gone-lost : (x y : Bool) → (x && not y) ≡ (x && not (x && y))
-gone-lost true y = refl
-gone-lost false y = refl
+gone_lost : (x y : Bool) → (x && not y) ≡ (x && not (x && y))
+gone_lost true y = refl
+gone_lost false y = refl
 
 open_length : (cs : List Case) → none_open cs ≡ false → suc (length (under cs)) ≡ length cs
 open_length [] h = absurd (true≢false h)
@@ -112,7 +112,7 @@ keeping_removes : (t : Problem) (m : Model) (ps : List (List ℕ)) → none_open
 keeping_removes t m ps o =
     let s = top m.pile in
     record {
-      count = ap count_of (size_same (gone ps s) (lost s (kept ps s)) (length t.arcs) (λ a. gone-lost (s a) (on_some ps a)));
+      count = ap count_of (size_same (gone ps s) (lost s (kept ps s)) (length t.arcs) (λ a. gone_lost (s a) (on_some ps a)));
       cases = open_length m.pile o;
       others = refl;
       claim = refl;
@@ -138,7 +138,7 @@ module _ (t : Problem) (m : Model) (zs : List ℤ) where
   strike_kept : (a : ℕ) → Iff (kept (cheaply t m zs) s a ≡ true) (SomeThroughBelow t m zs a)
   strike_kept a = (
     (λ h.
-        let r = some-on a (cheaply t m zs) (and_parts (s a) _ h).1 in
+        let r = some_on a (cheaply t m zs) (and_parts (s a) _ h).1 in
         let i = those_out (below t zs m.claimed) r.0 (standing_in t s) r.1.0 in
         (r.0, (in_stands t.places t.arcs s r.0 i.1, (r.1.1, lt_z_true (amount t zs r.0) (mark m.claimed) i.0)))),
     (λ h.
@@ -149,7 +149,7 @@ module _ (t : Problem) (m : Model) (zs : List ℤ) where
   )
 
   strike_open : strike_rows t m zs ≡ None → none_open m.pile ≡ false
-  strike_open e = when-none (none_open m.pile) NoCase (or_none (no_case m) None (or_none (multiplier_rows t zs) _ e).1).0
+  strike_open e = when_none (none_open m.pile) NoCase (or_none (no_case m) None (or_none (multiplier_rows t zs) _ e).1).0
 
   strike_removed : (a : ℕ) (b : Bool) → Iff (b ≡ true) (SomeThroughBelow t m zs a) → Iff (b ≡ false) (AllThroughMeet t m zs a)
   strike_removed a b i = (
@@ -162,7 +162,7 @@ module _ (t : Problem) (m : Model) (zs : List ℤ) where
 
   strike_means : Accepted (on_strike t m zs) → StrikeMeans t m zs
   strike_means h =
-      let rows = accepted-none m (strike_rows t m zs) (keeping t m (cheaply t m zs)) h in
+      let rows = accepted_none m (strike_rows t m zs) (keeping t m (cheaply t m zs)) h in
       let e = decided_done m (strike_rows t m zs) (keeping t m (cheaply t m zs)) rows in
       let remains : (a : ℕ) → Iff (stands_after (on_strike t m zs) a ≡ true) (SomeThroughBelow t m zs a) = λ a. subst (λ o. Iff (stands_after o a ≡ true) (SomeThroughBelow t m zs a)) (sym e) (strike_kept a) in
       record {
@@ -181,7 +181,7 @@ module _ (t : Problem) (m : Model) where
 
   trim_kept : (a : ℕ) → Iff (kept (standing_in t w) w a ≡ true) (OnPlan a)
   trim_kept a = (
-    (λ h. let r = some-on a (standing_in t w) (and_parts (w a) _ h).1 in (r.0, (in_stands t.places t.arcs w r.0 r.1.0, r.1.1))),
+    (λ h. let r = some_on a (standing_in t w) (and_parts (w a) _ h).1 in (r.0, (in_stands t.places t.arcs w r.0 r.1.0, r.1.1))),
     (λ h. and_from (w a) _ (stands_each w h.0 a h.1.0.all h.1.1) (on_some_lem h.0 a (standing_in t w) (stands_in t.places t.arcs w h.0 h.1.0) h.1.1)),
   )
 
@@ -196,13 +196,13 @@ module _ (t : Problem) (m : Model) where
 
   trim_means : Accepted (on_trim t m) → TrimMeans t m
   trim_means h =
-      let rows = accepted-none m (trim_rows m) (keeping t m (standing_in t w)) h in
+      let rows = accepted_none m (trim_rows m) (keeping t m (standing_in t w)) h in
       let e = decided_done m (trim_rows m) (keeping t m (standing_in t w)) rows in
       let remains : (a : ℕ) → Iff (stands_after (on_trim t m) a ≡ true) (OnPlan a) = λ a. subst (λ o. Iff (stands_after o a ≡ true) (OnPlan a)) (sym e) (trim_kept a) in
       record {
         removed = λ a _. trim_removed a (stands_after (on_trim t m) a) (remains a);
         remains = remains;
-        rest = subst (Removes t m) (sym e) (keeping_removes t m (standing_in t w) (when-none (none_open m.pile) NoCase rows));
+        rest = subst (Removes t m) (sym e) (keeping_removes t m (standing_in t w) (when_none (none_open m.pile) NoCase rows));
       }
 
 -- close
@@ -260,13 +260,13 @@ module _ (t : Problem) (m : Model) (zs : List ℤ) (rows : strike_rows t m zs �
 
   -- a standing plan is priced at the least amount or above
   at_least : (q : List ℕ) → Working t m q → (p : List ℕ) × ((first ≡ Some p) × (amount t zs p ≤ℤ amount t zs q))
-  at_least q w = cheapest-least (amount t zs) q (standing_in t (top m.pile)) (stands_in t.places t.arcs (top m.pile) q w)
+  at_least q w = cheapest_least (amount t zs) q (standing_in t (top m.pile)) (stands_in t.places t.arcs (top m.pile) q w)
 
   first_is : (p : List ℕ) → first ≡ Some p → FirstPriced t m zs p
   first_is p e = ((known t m (amount t zs)).priced p).0 e
 
-  least-below : SomeBelow t m zs → (p : List ℕ) × ((first ≡ Some p) × (amount t zs p <ℤ mark m.claimed))
-  least-below h =
+  least_below : SomeBelow t m zs → (p : List ℕ) × ((first ≡ Some p) × (amount t zs p <ℤ mark m.claimed))
+  least_below h =
       let r = at_least h.0 h.1.0 in
       (r.0, (r.1.0, lower (amount t zs r.0) (amount t zs h.0) (mark m.claimed) r.1.1 h.1.1))
 
@@ -282,11 +282,11 @@ module _ (t : Problem) (m : Model) (zs : List ℤ) (rows : strike_rows t m zs �
         refused = (
           (λ h. let r = refused_by m v f first h.0 (sym answer ∙ h.1) in (r.0, ((first_is r.0 r.1.0).stands, r.1.1.1))),
           (λ h.
-              let r = least-below h in
+              let r = least_below h in
               (f r.0, ap (λ (o : Outcome Model ℕ). o.answer) (is_closing ∙ refuses m v f first r.0 r.1.0 r.1.1))),
         );
         beside = λ z h. let r = refused_by m v f first z (sym answer ∙ h) in (r.0, (first_is r.0 r.1.0, r.1.1.0));
-        stays = λ h. let r = least-below h in ap (λ (o : Outcome Model ℕ). o.left) (is_closing ∙ refuses m v f first r.0 r.1.0 r.1.1);
+        stays = λ h. let r = least_below h in ap (λ (o : Outcome Model ℕ). o.left) (is_closing ∙ refuses m v f first r.0 r.1.0 r.1.1);
         accepted = (
           (λ h q w.
               let r = at_least q w in

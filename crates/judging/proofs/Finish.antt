@@ -38,13 +38,13 @@ unrivalled arcs s h a b la lb x y e =
     ]
 
 -- one list of calls after another
-pub run-both : (t : Problem) (xs ys : List Call) (m : Model) → run t (xs ++ ys) m ≡ run t ys (run t xs m)
-run-both t [] ys m = refl
-run-both t (x ∷ xs) ys m = run-both t xs ys (after t m x)
+pub run_both : (t : Problem) (xs ys : List Call) (m : Model) → run t (xs ++ ys) m ≡ run t ys (run t xs m)
+run_both t [] ys m = refl
+run_both t (x ∷ xs) ys m = run_both t xs ys (after t m x)
 
-finishing-both : (xs ys : List Call) → all_finishing xs ≡ true → all_finishing ys ≡ true → all_finishing (xs ++ ys) ≡ true
-finishing-both [] ys p q = q
-finishing-both (x ∷ xs) ys p q = let r = and_parts (finishing x) (all_finishing xs) p in and_from (finishing x) _ r.0 (finishing-both xs ys r.1 q)
+finishing_both : (xs ys : List Call) → all_finishing xs ≡ true → all_finishing ys ≡ true → all_finishing (xs ++ ys) ≡ true
+finishing_both [] ys p q = q
+finishing_both (x ∷ xs) ys p q = let r = and_parts (finishing x) (all_finishing xs) p in and_from (finishing x) _ r.0 (finishing_both xs ys r.1 q)
 
 module _ (t : Problem) (posed : Posed t) (few : Few t) (m : Model) (low : m.claimed ≤ 1000000) (right : NoneUnder t m.claimed) where
   abbrev n : ℕ
@@ -58,7 +58,7 @@ module _ (t : Problem) (posed : Posed t) (few : Few t) (m : Model) (low : m.clai
   step from to c f e = (c ∷ [], (and_from (finishing c) true f refl, e))
 
   chain : (x y z : List Case) → Leads x y → Leads y z → Leads x z
-  chain x y z a b = (a.0 ++ b.0, (finishing-both a.0 b.0 a.1.0 b.1.0, run-both t a.0 b.0 (piled m x) ∙ ap (run t b.0) a.1.1 ∙ b.1.1))
+  chain x y z a b = (a.0 ++ b.0, (finishing_both a.0 b.0 a.1.0 b.1.0, run_both t a.0 b.0 (piled m x) ∙ ap (run t b.0) a.1.1 ∙ b.1.1))
 
   -- two arcs of one place with different routes split a case
   parts : (s : Case) (rest : List Case) (a b : ℕ) → size s n + length rest ≤ 1024 → a < n → b < n → s a ≡ true → rival t.arcs s a b ≡ true →

@@ -11,12 +11,12 @@ use Rattle.judging.specs.Cases.{mark}
 pub mark_over : (c k : ℕ) → k < c → pos (1000 * k) <ℤ mark c
 mark_over c k h = omega (arith, ints)
 
-pub mark-under : (c k : ℕ) → c ≤ k → mark c ≤ℤ pos (1000 * k)
-mark-under c k h = omega (arith, ints)
+pub mark_under : (c k : ℕ) → c ≤ k → mark c ≤ℤ pos (1000 * k)
+mark_under c k h = omega (arith, ints)
 
 -- at fair multipliers a lawful plan that costs less than the claim is priced below the mark
-pub below-mark : (t : Problem) (zs : List ℤ) (p : List ℕ) (c : ℕ) → Fair t.rules zs → Lawful t p → cost_of t p < c → amount t zs p <ℤ mark c
-below-mark t zs p c f l h = chain (amount t zs p) (pos (1000 * cost_of t p)) (mark c) (never_overpriced t zs f p l) (mark_over c (cost_of t p) h)
+pub below_mark : (t : Problem) (zs : List ℤ) (p : List ℕ) (c : ℕ) → Fair t.rules zs → Lawful t p → cost_of t p < c → amount t zs p <ℤ mark c
+below_mark t zs p c f l h = chain (amount t zs p) (pos (1000 * cost_of t p)) (mark c) (never_overpriced t zs f p l) (mark_over c (cost_of t p) h)
   where
     chain : (x y z : ℤ) → x ≤ℤ y → y <ℤ z → x <ℤ z
     chain x y z h k = omega (arith, ints)

@@ -15,7 +15,7 @@ use Rattle.rules.specs.Lawful.{Problem, total, meets, holds}
 use Rattle.amounts.specs.Multipliers.{fair, Fair}
 use Rattle.amounts.specs.Amounts.{charge}
 use Rattle.amounts.proofs.Products.{product_over, product_under}
-use Rattle.amounts.proofs.Lowest.{fair-length, fair-lowest}
+use Rattle.amounts.proofs.Lowest.{fair_length, fair_lowest}
 use Rattle.judging.specs.Calls.{multiplier_rows}
 use Rattle.judging.specs.Theorem.{ranged}
 use Rattle.judging.proofs.Rows.{none_or}
@@ -24,8 +24,8 @@ use Rattle.judging.proofs.Rows.{none_or}
 pub fair_rows : (t : Problem) (zs : List ℤ) → length t.rules ≤ 128 → Fair t.rules zs → multiplier_rows t zs ≡ None
 fair_rows t zs few f =
     none_or _ _ (ap (λ (b : Bool). when b TooManyRules) (le-ltb 128 (length t.rules) few))
-    (none_or _ _ (ap (λ (b : Bool). when (not b) MultiplierCount) (eq-eqb (length zs) (length t.rules) (fair-length t.rules zs f)))
-    (none_or _ _ (ap (λ (o : Option ℕ). naming MultiplierRange o) (fair-lowest t.rules zs f)) refl))
+    (none_or _ _ (ap (λ (b : Bool). when (not b) MultiplierCount) (eq-eqb (length zs) (length t.rules) (fair_length t.rules zs f)))
+    (none_or _ _ (ap (λ (o : Option ℕ). naming MultiplierRange o) (fair_lowest t.rules zs f)) refl))
 
 -- 0 for each rule
 abbrev pub zeros : List Rule → List ℤ
@@ -36,21 +36,21 @@ zero_fair : (s : Sense) → fair s (pos 0) ≡ true
 zero_fair AtMost = refl
 zero_fair Exactly = refl
 
-pub zeros-fair : (us : List Rule) → Fair us (zeros us)
-zeros-fair [] = tt
-zeros-fair (u ∷ us) = (zero_fair u.sense, zeros-fair us)
+pub zeros_fair : (us : List Rule) → Fair us (zeros us)
+zeros_fair [] = tt
+zeros_fair (u ∷ us) = (zero_fair u.sense, zeros_fair us)
 
-pub zeros-ranged : (us : List Rule) → ranged (zeros us) ≡ true
-zeros-ranged [] = refl
-zeros-ranged (u ∷ us) = zeros-ranged us
+pub zeros_ranged : (us : List Rule) → ranged (zeros us) ≡ true
+zeros_ranged [] = refl
+zeros_ranged (u ∷ us) = zeros_ranged us
 
 nought : (x y : ℤ) → x ≡ pos 0 → y ≡ pos 0 → x +ℤ y ≡ pos 0
 nought x y h k = omega (arith, ints)
 
 -- they charge nothing
-pub zeros-charge : (arcs : List Arc) (us : List Rule) (p : List ℕ) → charge arcs us (zeros us) p ≡ pos 0
-zeros-charge arcs [] p = refl
-zeros-charge arcs (u ∷ us) p = nought (pos 0 *ℤ total arcs u p) _ (zero-*ℤ (total arcs u p)) (zeros-charge arcs us p)
+pub zeros_charge : (arcs : List Arc) (us : List Rule) (p : List ℕ) → charge arcs us (zeros us) p ≡ pos 0
+zeros_charge arcs [] p = refl
+zeros_charge arcs (u ∷ us) p = nought (pos 0 *ℤ total arcs u p) _ (zero-*ℤ (total arcs u p)) (zeros_charge arcs us p)
 
 -- a multiplier for a rule that is broken, which charges a thousand million at least
 abbrev Strong : Sense → ℤ → Type 0
@@ -82,11 +82,11 @@ broken_or_not arcs p (u ∷ us) =
           inr (
             z.0 ∷ zeros us,
             (
-              (z.1.0, zeros-fair us),
+              (z.1.0, zeros_fair us),
               (
-                and_from _ _ z.1.1.0 (zeros-ranged us),
+                and_from _ _ z.1.1.0 (zeros_ranged us),
                 λ q e.
-                    first (z.0 *ℤ total arcs u q) (charge arcs us (zeros us) q) (subst (λ x. pos 1_000_000_000 ≤ℤ (z.0 *ℤ x)) (sym (e u)) z.1.1.1) (zeros-charge arcs us q),
+                    first (z.0 *ℤ total arcs u q) (charge arcs us (zeros us) q) (subst (λ x. pos 1_000_000_000 ≤ℤ (z.0 *ℤ x)) (sym (e u)) z.1.1.1) (zeros_charge arcs us q),
               ),
             ),
           )

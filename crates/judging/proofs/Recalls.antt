@@ -6,7 +6,7 @@ use Rattle.rules.specs.Lawful.{Problem}
 use Rattle.judging.specs.Cases.{Model, opened, standing_in, top}
 use Rattle.judging.specs.Calls.{lent, claim_rows, claim_done, price_rows, price_done, sample_rows, sample_done, keeping, cheaply, strike_rows, trim_rows, split_rows, split_done, close_rows, close_done, offer_rows, offer_done, Call, claim, price, sample, strike, trim, split, close, offer, verdict, after, run}
 use Rattle.judging.specs.Theorem.{claim_by, offer_by, last_claim, last_offer, Recalled}
-use Rattle.judging.proofs.Rows.{decided-both}
+use Rattle.judging.proofs.Rows.{decided_both}
 
 module _ (t : Problem) (m : Model) where
   abbrev SameClaim : Model → Type 0
@@ -22,24 +22,24 @@ module _ (t : Problem) (m : Model) where
       by : (o : Option Refusal) → (decided m o (claim_done t m k)).left.claimed ≡ cond (is_ok (decided m o (claim_done t m k)).answer) k m.claimed
       by None = refl
       by (Some e) = refl
-  claimed_by (price zs room) = decided-both (λ x. SameClaim x.model) (lent m room) (price_rows t m zs room) (price_done t m zs room) refl (λ _. refl)
-  claimed_by (sample room) = decided-both (λ x. SameClaim x.model) (lent m room) (sample_rows t m room) (sample_done t m room) refl (λ _. refl)
-  claimed_by (strike zs) = decided-both SameClaim m (strike_rows t m zs) (keeping t m (cheaply t m zs)) refl (λ _. refl)
-  claimed_by trim = decided-both SameClaim m (trim_rows m) (keeping t m (standing_in t (top m.pile))) refl (λ _. refl)
-  claimed_by (split k routes) = decided-both SameClaim m (split_rows t m k routes) (split_done t m k routes) refl (λ _. refl)
-  claimed_by (close zs) = decided-both SameClaim m (close_rows t m zs) (close_done m) refl (λ _. refl)
-  claimed_by (offer p) = decided-both SameClaim m (offer_rows t m p) (offer_done t m p) refl (λ _. refl)
+  claimed_by (price zs room) = decided_both (λ x. SameClaim x.model) (lent m room) (price_rows t m zs room) (price_done t m zs room) refl (λ _. refl)
+  claimed_by (sample room) = decided_both (λ x. SameClaim x.model) (lent m room) (sample_rows t m room) (sample_done t m room) refl (λ _. refl)
+  claimed_by (strike zs) = decided_both SameClaim m (strike_rows t m zs) (keeping t m (cheaply t m zs)) refl (λ _. refl)
+  claimed_by trim = decided_both SameClaim m (trim_rows m) (keeping t m (standing_in t (top m.pile))) refl (λ _. refl)
+  claimed_by (split k routes) = decided_both SameClaim m (split_rows t m k routes) (split_done t m k routes) refl (λ _. refl)
+  claimed_by (close zs) = decided_both SameClaim m (close_rows t m zs) (close_done m) refl (λ _. refl)
+  claimed_by (offer p) = decided_both SameClaim m (offer_rows t m p) (offer_done t m p) refl (λ _. refl)
   claimed_by verdict = refl
 
   -- and of the plan held
   held_by : (c : Call) → (after t m c).held ≡ offer_by t m c m.held
-  held_by (claim k) = decided-both SameHeld m (claim_rows k) (claim_done t m k) refl (λ _. refl)
-  held_by (price zs room) = decided-both (λ x. SameHeld x.model) (lent m room) (price_rows t m zs room) (price_done t m zs room) refl (λ _. refl)
-  held_by (sample room) = decided-both (λ x. SameHeld x.model) (lent m room) (sample_rows t m room) (sample_done t m room) refl (λ _. refl)
-  held_by (strike zs) = decided-both SameHeld m (strike_rows t m zs) (keeping t m (cheaply t m zs)) refl (λ _. refl)
-  held_by trim = decided-both SameHeld m (trim_rows m) (keeping t m (standing_in t (top m.pile))) refl (λ _. refl)
-  held_by (split k routes) = decided-both SameHeld m (split_rows t m k routes) (split_done t m k routes) refl (λ _. refl)
-  held_by (close zs) = decided-both SameHeld m (close_rows t m zs) (close_done m) refl (λ _. refl)
+  held_by (claim k) = decided_both SameHeld m (claim_rows k) (claim_done t m k) refl (λ _. refl)
+  held_by (price zs room) = decided_both (λ x. SameHeld x.model) (lent m room) (price_rows t m zs room) (price_done t m zs room) refl (λ _. refl)
+  held_by (sample room) = decided_both (λ x. SameHeld x.model) (lent m room) (sample_rows t m room) (sample_done t m room) refl (λ _. refl)
+  held_by (strike zs) = decided_both SameHeld m (strike_rows t m zs) (keeping t m (cheaply t m zs)) refl (λ _. refl)
+  held_by trim = decided_both SameHeld m (trim_rows m) (keeping t m (standing_in t (top m.pile))) refl (λ _. refl)
+  held_by (split k routes) = decided_both SameHeld m (split_rows t m k routes) (split_done t m k routes) refl (λ _. refl)
+  held_by (close zs) = decided_both SameHeld m (close_rows t m zs) (close_done m) refl (λ _. refl)
   held_by (offer p) = by (offer_rows t m p)
     where
       by : (o : Option Refusal) → (decided m o (offer_done t m p)).left.held ≡ cond (is_ok (decided m o (offer_done t m p)).answer) (Some p) m.held

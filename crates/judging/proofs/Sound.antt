@@ -14,14 +14,14 @@ use Rattle.plans.specs.Firsts.{amount_in}
 use Rattle.plans.proofs.Whole.{lt_lt_z, lt_z_false}
 use Rattle.plans.proofs.Steps.{next_there, next_place}
 use Rattle.plans.proofs.Members.{those_in}
-use Rattle.plans.proofs.Standing.{on_some_lem, stands_each, stands_all, stands_in, cheapest-least}
+use Rattle.plans.proofs.Standing.{on_some_lem, stands_each, stands_all, stands_in, cheapest_least}
 use Rattle.rules.specs.Lawful.{Problem, Lawful, cost_of}
 use Rattle.amounts.specs.Amounts.{amount}
 use Rattle.judging.specs.Cases.{Model, opened, mark, standing_in, inside, outside, top, under, none_open, piled}
 use Rattle.judging.specs.Calls.{multiplier_rows, no_case, lent, claim_rows, claim_done, price_rows, sample_rows, keeping, below, cheaply, strike_rows, on_strike, trim_rows, wrong_place, empty_side, split_rows, split_done, on_split, undercut, not_closed, close_rows, close_done, offer_rows, offer_done, Call, claim, price, sample, strike, trim, split, close, offer, verdict, after, run}
 use Rattle.judging.specs.Theorem.{Sized}
-use Rattle.judging.proofs.Rows.{decided-both, or_none, when-none, naming-none, multipliers_fair, offer_lawful}
-use Rattle.judging.proofs.Marks.{below-mark}
+use Rattle.judging.proofs.Rows.{decided_both, or_none, when_none, naming_none, multipliers_fair, offer_lawful}
+use Rattle.judging.proofs.Marks.{below_mark}
 use Rattle.judging.proofs.Sizes.{sized_top, size_most, size_within, split_sizes}
 
 -- whether a plan stands in some case
@@ -41,8 +41,8 @@ path_every arcs k v [] h = refl
 path_every arcs k v (a ∷ p) h = and_from _ _ (lt-ltb a (length arcs) (next_there arcs k v a h.0)) (path_every arcs (suc k) (arc_at arcs a).end p h.1)
 
 -- a plan of a list stands in what is kept for the list
-pub kept-stands : (s : Case) (ps : List (List ℕ)) (p : List ℕ) → In p ps → stands s p ≡ true → stands (kept ps s) p ≡ true
-kept-stands s ps p m h = stands_all (kept ps s) p (λ a k. and_from (s a) (on_some ps a) (stands_each s p a h k) (on_some_lem p a ps m k))
+pub kept_stands : (s : Case) (ps : List (List ℕ)) (p : List ℕ) → In p ps → stands s p ≡ true → stands (kept ps s) p ≡ true
+kept_stands s ps p m h = stands_all (kept ps s) p (λ a k. and_from (s a) (on_some ps a) (stands_each s p a h k) (on_some_lem p a ps m k))
 
 module _ (arcs : List Arc) (k routes : ℕ) (s : Case) where
   off : (a : ℕ) (x : Bool) → ((arc_at arcs a).place ≡ k → ⊥) → s a ≡ true → (s a && (not (eqb (arc_at arcs a).place k) || x)) ≡ true
@@ -82,8 +82,8 @@ cover_top [] p h = absurd (true≢false (sym h))
 cover_top (w ∷ rest) p h = or_cases (stands w p) (covered rest p) h
 
 -- a least amount that does not undercut
-pub undercut-none : (v w : ℤ) → undercut v (Some w) ≡ None → v ≤ℤ w
-undercut-none v w h = lt_z_false w v (by (lt_z w v) h)
+pub undercut_none : (v w : ℤ) → undercut v (Some w) ≡ None → v ≤ℤ w
+undercut_none v w h = lt_z_false w v (by (lt_z w v) h)
   where
     by : (b : Bool) → cond b (Some w) None ≡ None → b ≡ false
     by true e = let z : ◌≡◌ {A = ℕ} 0 1 = cc in absurd (omega arith)
@@ -117,19 +117,19 @@ module _ (t : Problem) (small : length t.arcs ≤ 1024) where
         claim = s.claim;
         held = s.held;
         cover = λ p l c. elim (cover_top m.pile p (s.cover p l c)) [
-          | inl w ↦ or_left _ _ (kept-stands (top m.pile) ps p (h p l c w) w)
+          | inl w ↦ or_left _ _ (kept_stands (top m.pile) ps p (h p l c w) w)
           | inr w ↦ or_right _ _ w
         ];
         sized = (omega (arith, z.0, size_within (kept ps (top m.pile)) (top m.pile) (length t.arcs) (λ a e. (and_parts (top m.pile a) _ e).0)), z.1);
       }
 
   strike_safe : (m : Model) (zs : List ℤ) → Safe t m → Safe t (on_strike t m zs).left
-  strike_safe m zs s = decided-both (Safe t) m (strike_rows t m zs) (keeping t m (cheaply t m zs)) s (λ e.
+  strike_safe m zs s = decided_both (Safe t) m (strike_rows t m zs) (keeping t m (cheaply t m zs)) s (λ e.
       let r = or_none (multiplier_rows t zs) _ e in
       let o = or_none (no_case m) None r.1 in
-      narrow m (cheaply t m zs) s (when-none _ NoCase o.0) (λ p l c w.
+      narrow m (cheaply t m zs) s (when_none _ NoCase o.0) (λ p l c w.
       those_in (below t zs m.claimed) p (standing_in t (top m.pile))
-      (lt_lt_z (amount t zs p) (mark m.claimed) (below-mark t zs p m.claimed (multipliers_fair t zs r.0) l c))
+      (lt_lt_z (amount t zs p) (mark m.claimed) (below_mark t zs p m.claimed (multipliers_fair t zs r.0) l c))
       (lawful_listed (top m.pile) p l w)))
 
   close_safe : (m : Model) (zs : List ℤ) → Safe t m → close_rows t m zs ≡ None → Safe t (piled m (under m.pile))
@@ -137,15 +137,15 @@ module _ (t : Problem) (small : length t.arcs ≤ 1024) where
       let r = or_none (multiplier_rows t zs) _ e in
       let o = or_none (no_case m) _ r.1 in
       let u = or_none (not_closed t m zs) None o.1 in
-      let z = sized_top (length t.arcs) m.pile (when-none _ NoCase o.0) s.sized in
+      let z = sized_top (length t.arcs) m.pile (when_none _ NoCase o.0) s.sized in
       record {
         claim = s.claim;
         held = s.held;
         cover = λ p l c. elim (cover_top m.pile p (s.cover p l c)) [
           | inl w ↦
-              let q = cheapest-least (amount t zs) p (standing_in t (top m.pile)) (lawful_listed (top m.pile) p l w) in
-              let g : undercut (mark m.claimed) (Some (amount t zs q.0)) ≡ None = subst (λ x. undercut (mark m.claimed) (amount_in (amount t zs) x) ≡ None) q.1.0 (naming-none NotClosed _ u.0) in
-              absurd (clash (mark m.claimed) (amount t zs q.0) (amount t zs p) (undercut-none _ _ g) q.1.1 (below-mark t zs p m.claimed (multipliers_fair t zs r.0) l c))
+              let q = cheapest_least (amount t zs) p (standing_in t (top m.pile)) (lawful_listed (top m.pile) p l w) in
+              let g : undercut (mark m.claimed) (Some (amount t zs q.0)) ≡ None = subst (λ x. undercut (mark m.claimed) (amount_in (amount t zs) x) ≡ None) q.1.0 (naming_none NotClosed _ u.0) in
+              absurd (clash (mark m.claimed) (amount t zs q.0) (amount t zs p) (undercut_none _ _ g) q.1.1 (below_mark t zs p m.claimed (multipliers_fair t zs r.0) l c))
           | inr w ↦ w
         ];
         sized = z.1;
@@ -155,13 +155,13 @@ module _ (t : Problem) (small : length t.arcs ≤ 1024) where
       clash x y z h k l = omega (arith, ints)
 
   split_safe : (m : Model) (k routes : ℕ) → Safe t m → Safe t (on_split t m k routes).left
-  split_safe m k routes s = decided-both (Safe t) m (split_rows t m k routes) (split_done t m k routes) s (λ e.
+  split_safe m k routes s = decided_both (Safe t) m (split_rows t m k routes) (split_done t m k routes) s (λ e.
       let w = top m.pile in
       let r = or_none (no_case m) _ e in
       let q = or_none (wrong_place t k) _ r.1 in
       let u = or_none (empty_side t m k routes) _ q.1 in
-      let z = sized_top (length t.arcs) m.pile (when-none _ NoCase r.0) s.sized in
-      let l = split_sizes t.arcs k routes w (when-none _ OneSided u.0) in
+      let z = sized_top (length t.arcs) m.pile (when_none _ NoCase r.0) s.sized in
+      let l = split_sizes t.arcs k routes w (when_none _ OneSided u.0) in
       record {
         claim = s.claim;
         held = s.held;
@@ -177,15 +177,15 @@ module _ (t : Problem) (small : length t.arcs ≤ 1024) where
 
   -- each call keeps it so
   pub after_safe : (m : Model) (c : Call) → Safe t m → Safe t (after t m c)
-  after_safe m (claim k) s = decided-both (Safe t) m (claim_rows k) (claim_done t m k) s (λ e. fresh k m s (ltb-false 1000000 k (when-none _ ClaimRange e)))
-  after_safe m (price zs room) s = decided-both (λ x. Safe t x.model) (lent m room) (price_rows t m zs room) _ s (λ _. s)
-  after_safe m (sample room) s = decided-both (λ x. Safe t x.model) (lent m room) (sample_rows t m room) _ s (λ _. s)
+  after_safe m (claim k) s = decided_both (Safe t) m (claim_rows k) (claim_done t m k) s (λ e. fresh k m s (ltb-false 1000000 k (when_none _ ClaimRange e)))
+  after_safe m (price zs room) s = decided_both (λ x. Safe t x.model) (lent m room) (price_rows t m zs room) _ s (λ _. s)
+  after_safe m (sample room) s = decided_both (λ x. Safe t x.model) (lent m room) (sample_rows t m room) _ s (λ _. s)
   after_safe m (strike zs) s = strike_safe m zs s
-  after_safe m trim s = decided-both (Safe t) m (trim_rows m) (keeping t m (standing_in t (top m.pile))) s (λ e.
-      narrow m (standing_in t (top m.pile)) s (when-none _ NoCase e) (λ p l c w. lawful_listed (top m.pile) p l w))
+  after_safe m trim s = decided_both (Safe t) m (trim_rows m) (keeping t m (standing_in t (top m.pile))) s (λ e.
+      narrow m (standing_in t (top m.pile)) s (when_none _ NoCase e) (λ p l c w. lawful_listed (top m.pile) p l w))
   after_safe m (split k routes) s = split_safe m k routes s
-  after_safe m (close zs) s = decided-both (Safe t) m (close_rows t m zs) (close_done m) s (close_safe m zs s)
-  after_safe m (offer p) s = decided-both (Safe t) m (offer_rows t m p) (offer_done t m p) s (λ e.
+  after_safe m (close zs) s = decided_both (Safe t) m (close_rows t m zs) (close_done m) s (close_safe m zs s)
+  after_safe m (offer p) s = decided_both (Safe t) m (offer_rows t m p) (offer_done t m p) s (λ e.
       record { claim = s.claim; held = λ q x. let y : p ≡ q = cc in subst (Lawful t) y (offer_lawful t m p e); cover = s.cover; sized = s.sized })
   after_safe m verdict s = s
 

@@ -20,8 +20,8 @@ use Rattle.judging.specs.Cases.{Model, mark, standing_in, first_plan, piled}
 use Rattle.judging.specs.Calls.{undercut, close_rows, close_done, after, close}
 use Rattle.judging.specs.Theorem.{NoneUnder, ranged}
 use Rattle.judging.proofs.Rows.{none_or, decided_done}
-use Rattle.judging.proofs.Marks.{mark-under}
-use Rattle.judging.proofs.Multipliers.{fair_rows, zeros, zeros-fair, zeros-ranged, zeros-charge, broken_or_not}
+use Rattle.judging.proofs.Marks.{mark_under}
+use Rattle.judging.proofs.Multipliers.{fair_rows, zeros, zeros_fair, zeros_ranged, zeros_charge, broken_or_not}
 
 -- one route at each place
 abbrev pub Uniform : List Arc → Case → Type 0
@@ -71,15 +71,15 @@ module _ (t : Problem) (few : length t.rules ≤ 128) (m : Model) (low : m.claim
   pub uniform_closes : (s : Case) (rest : List Case) → Uniform t.arcs s → Closes s rest
   uniform_closes s rest uni =
       elim (listed (standing_in t s)) [
-        | inl none ↦ (zeros t.rules, (zeros-ranged t.rules, closes (zeros t.rules) s rest (zeros-fair t.rules) (λ p i. absurd (subst (In p) none i))))
+        | inl none ↦ (zeros t.rules, (zeros_ranged t.rules, closes (zeros t.rules) s rest (zeros_fair t.rules) (λ p i. absurd (subst (In p) none i))))
         | inr some ↦ elim (broken_or_not t.arcs some.0 t.rules) [
           | inl all ↦ (
             zeros t.rules,
             (
-              zeros-ranged t.rules,
-              closes (zeros t.rules) s rest (zeros-fair t.rules) (λ p i.
+              zeros_ranged t.rules,
+              closes (zeros t.rules) s rest (zeros_fair t.rules) (λ p i.
                   let lawful : Lawful t p = record { plan = (in_stands t.places t.arcs s p i).plan; allowed = λ r l. ap (meets (get_or t.rules r no_rule).sense) (same_totals s uni p some.0 i some.1 (get_or t.rules r no_rule)) ∙ all r l } in
-                  free (mark m.claimed) (pos (1000 * cost_of t p)) (charge t.arcs t.rules (zeros t.rules) p) (mark-under m.claimed (cost_of t p) (right p lawful)) (zeros-charge t.arcs t.rules p)),
+                  free (mark m.claimed) (pos (1000 * cost_of t p)) (charge t.arcs t.rules (zeros t.rules) p) (mark_under m.claimed (cost_of t p) (right p lawful)) (zeros_charge t.arcs t.rules p)),
             ),
           )
           | inr c ↦ (
@@ -87,7 +87,7 @@ module _ (t : Problem) (few : length t.rules ≤ 128) (m : Model) (low : m.claim
             (
               c.1.1.0,
               closes c.0 s rest c.1.0 (λ p i.
-                  dear (mark m.claimed) (cost_of t p) (charge t.arcs t.rules c.0 p) (mark-under m.claimed 1000000 low) (c.1.1.1 p (same_totals s uni p some.0 i some.1))),
+                  dear (mark m.claimed) (cost_of t p) (charge t.arcs t.rules c.0 p) (mark_under m.claimed 1000000 low) (c.1.1.1 p (same_totals s uni p some.0 i some.1))),
             ),
           )
         ]

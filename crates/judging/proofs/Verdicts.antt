@@ -13,7 +13,7 @@ use Rattle.rules.specs.Lawful.{Problem, Lawful, cost_of}
 use Rattle.judging.specs.Cases.{Model, none_open}
 use Rattle.judging.specs.Calls.{stray, no_cheaper, offer_rows, offer_done, judged, verdict_of, after, offer}
 use Rattle.judging.specs.Theorem.{NoneUnder, Confirmed, Holds}
-use Rattle.judging.proofs.Rows.{none_or, decided_done, holding-none}
+use Rattle.judging.proofs.Rows.{none_or, decided_done, holding_none}
 use Rattle.judging.proofs.Sound.{Safe, covered}
 
 module _ (t : Problem) (m : Model) where
@@ -92,7 +92,7 @@ offer_open t m p few l h =
     none_or _ _ (ap (λ (b : Bool). when b TooManyRules) (le-ltb 128 (length t.rules) few))
     (none_or _ _ (ap (λ (b : Bool). when (not b) OfferLength) (eq-eqb (length p) t.places l.plan.long))
     (none_or _ _ (ap (λ (o : Option ℕ). naming NotConnected o) (path_stray t.arcs 1 0 p l.plan.path))
-    (none_or _ _ (ap (λ (o : Option ℕ). naming BreaksRule o) (holding-none t.arcs p t.rules l.allowed))
+    (none_or _ _ (ap (λ (o : Option ℕ). naming BreaksRule o) (holding_none t.arcs p t.rules l.allowed))
     (none_or _ _ (ap (λ (b : Bool). when b NotCheaper) h) refl))))
 
 -- so the offer of a lawful plan cheaper than the claim refutes it, unless the plan held does

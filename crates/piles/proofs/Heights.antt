@@ -10,13 +10,13 @@ use Rattle.judging.specs.Cases.{inside, outside}
 use Rattle.piles.specs.declared.pile.Split.{Split}
 use Rattle.piles.specs.Heights.{no_split, split_at, stands_at, left_by, cases_under, cases_of, sided, cut_mark, lift_mark, keep_mark}
 
-pub length-under : (arcs : List Arc) (marks : List ℕ) (splits : List Split) (i : ℕ) → length (cases_under arcs marks splits i) ≡ i
-length-under arcs marks splits zero = refl
-length-under arcs marks splits (suc i) = ap suc (length-under arcs marks splits i)
+pub length_under : (arcs : List Arc) (marks : List ℕ) (splits : List Split) (i : ℕ) → length (cases_under arcs marks splits i) ≡ i
+length_under arcs marks splits zero = refl
+length_under arcs marks splits (suc i) = ap suc (length_under arcs marks splits i)
 
 pub length_cases : (arcs : List Arc) (marks : List ℕ) (splits : List Split) (k : ℕ) → length (cases_of arcs marks splits k) ≡ k
 length_cases arcs marks splits zero = refl
-length_cases arcs marks splits (suc i) = ap suc (length-under arcs marks splits i)
+length_cases arcs marks splits (suc i) = ap suc (length_under arcs marks splits i)
 
 -- with no mark, every arc stands
 pub all_stand : (arcs : List Arc) (marks : List ℕ) (i : ℕ) → ((a : ℕ) → get_or marks a 0 ≡ 0) → stands_at arcs marks i ≡ every arcs
@@ -27,8 +27,8 @@ all_stand arcs marks i none = fun_ext (λ a. subst (λ m. (ltb a (length arcs) &
     by false = refl
 
 -- at the top no mark is higher, so an arc stands where it has none
-pub top-stands : (arcs : List Arc) (marks : List ℕ) (k : ℕ) → ((a : ℕ) → get_or marks a 0 ≤ k) → (a : ℕ) → stands_at arcs marks k a ≡ (ltb a (length arcs) && eqb (get_or marks a 0) 0)
-top-stands arcs marks k low a = ap (λ b. ltb a (length arcs) && b) (by (get_or marks a 0) (low a))
+pub top_stands : (arcs : List Arc) (marks : List ℕ) (k : ℕ) → ((a : ℕ) → get_or marks a 0 ≤ k) → (a : ℕ) → stands_at arcs marks k a ≡ (ltb a (length arcs) && eqb (get_or marks a 0) 0)
+top_stands arcs marks k low a = ap (λ b. ltb a (length arcs) && b) (by (get_or marks a 0) (low a))
   where
     by : (m : ℕ) → m ≤ k → (eqb m 0 || ltb k m) ≡ eqb m 0
     by m h = grind (arith, nat_tests)

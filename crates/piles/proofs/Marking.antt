@@ -4,8 +4,8 @@ use Rattle.plans.specs.Cases.{Case, any}
 use Rattle.piles.specs.Heights.{lift_mark}
 
 -- whether one of the arcs behind is, after one more
-pub any-more : (s : Case) (i : ℕ) (b found : Bool) → b ≡ s i → found ≡ any s i → (b || found) ≡ any s (i + 1)
-any-more s i b found e f = ap (λ x. x || found) e ∙ ap (λ x. s i || x) f ∙ ap (any s) (sym (add-one i))
+pub any_more : (s : Case) (i : ℕ) (b found : Bool) → b ≡ s i → found ≡ any s i → (b || found) ≡ any s (i + 1)
+any_more s i b found e f = ap (λ x. x || found) e ∙ ap (λ x. s i || x) f ∙ ap (any s) (sym (add-one i))
 
 -- no mark is taken from an arc that has none
 pub lift_none : (height m : ℕ) → m ≡ 0 → m ≡ lift_mark height m

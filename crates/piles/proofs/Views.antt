@@ -10,7 +10,7 @@ use Rattle.judging.specs.Cases.{at_place, inside, outside, top, under}
 use Rattle.judging.specs.Calls.{one_sided}
 use Rattle.piles.specs.declared.pile.Split.{Split}
 use Rattle.piles.specs.Heights.{split_at, stands_at, cases_of, sided, cut_mark, lift_mark, keep_mark}
-use Rattle.piles.proofs.Heights.{top-stands, kept_low, kept_cases, split_low, split_cases, closed_low, closed_cases}
+use Rattle.piles.proofs.Heights.{top_stands, kept_low, kept_cases, split_low, split_cases, closed_low, closed_cases}
 
 module _ (arcs : List Arc) (marks : List ℕ) (splits : List Split) (k : ℕ) (some : 0 < k) (low : (a : ℕ) → get_or marks a 0 ≤ k) where
   -- which arcs stand in the working case
@@ -19,7 +19,7 @@ module _ (arcs : List Arc) (marks : List ℕ) (splits : List Split) (k : ℕ) (s
     where
       at : (j : ℕ) → 0 < j → ((b : ℕ) → get_or marks b 0 ≤ j) → (ltb a (length arcs) && eqb (get_or marks a 0) 0) ≡ top (cases_of arcs marks splits j) a
       at zero h l = absurd (omega arith)
-      at (suc i) h l = sym (top-stands arcs marks (suc i) l a)
+      at (suc i) h l = sym (top_stands arcs marks (suc i) l a)
 
   pub keep_low : (new : List ℕ) (keep : List Bool) → ((a : ℕ) → get_or new a 0 ≡ keep_mark (length arcs) keep k a (get_or marks a 0)) → (a : ℕ) → get_or new a 0 ≤ k
   keep_low new keep = at k some low
@@ -60,8 +60,8 @@ module _ (arcs : List Arc) (marks : List ℕ) (splits : List Split) (k : ℕ) (s
       out a = side_same (ltb a (length arcs)) (eqb (arc_at arcs a).place place) (not (in_set routes (arc_at arcs a).route)) (get_or marks a 0) (low a) ∙ ap (λ (s : Case). at_place arcs place (outside arcs place routes s) a) (sym (at k some))
 
   module _ (x : Split) (new : List ℕ) where
-    pub split-low-view : k ≤ length splits → ((a : ℕ) → get_or new a 0 ≡ cut_mark arcs x.place x.routes.bits false (k + 1) a (get_or marks a 0)) → (a : ℕ) → get_or new a 0 ≤ k + 1
-    split-low-view = at k some low
+    pub split_low_view : k ≤ length splits → ((a : ℕ) → get_or new a 0 ≡ cut_mark arcs x.place x.routes.bits false (k + 1) a (get_or marks a 0)) → (a : ℕ) → get_or new a 0 ≤ k + 1
+    split_low_view = at k some low
       where
         at : (j : ℕ) → 0 < j → ((b : ℕ) → get_or marks b 0 ≤ j) → j ≤ length splits → ((a : ℕ) → get_or new a 0 ≡ cut_mark arcs x.place x.routes.bits false (j + 1) a (get_or marks a 0)) → (a : ℕ) → get_or new a 0 ≤ j + 1
         at zero h l long each a = absurd (omega arith)
@@ -70,8 +70,8 @@ module _ (arcs : List Arc) (marks : List ℕ) (splits : List Split) (k : ℕ) (s
             let r = split_low arcs marks new splits x i (omega arith) l (λ b. each b ∙ ap (λ n. cut_mark arcs x.place x.routes.bits false n b (get_or marks b 0)) up) a in
             omega (arith, r)
 
-    pub split-view : k ≤ length splits → ((a : ℕ) → get_or new a 0 ≡ cut_mark arcs x.place x.routes.bits false (k + 1) a (get_or marks a 0)) → cases_of arcs new (set splits (k - 1) x) (k + 1) ≡ inside arcs x.place x.routes.bits (top (cases_of arcs marks splits k)) ∷ outside arcs x.place x.routes.bits (top (cases_of arcs marks splits k)) ∷ under (cases_of arcs marks splits k)
-    split-view = at k some low
+    pub split_view : k ≤ length splits → ((a : ℕ) → get_or new a 0 ≡ cut_mark arcs x.place x.routes.bits false (k + 1) a (get_or marks a 0)) → cases_of arcs new (set splits (k - 1) x) (k + 1) ≡ inside arcs x.place x.routes.bits (top (cases_of arcs marks splits k)) ∷ outside arcs x.place x.routes.bits (top (cases_of arcs marks splits k)) ∷ under (cases_of arcs marks splits k)
+    split_view = at k some low
       where
         at : (j : ℕ) → 0 < j → ((b : ℕ) → get_or marks b 0 ≤ j) → j ≤ length splits → ((a : ℕ) → get_or new a 0 ≡ cut_mark arcs x.place x.routes.bits false (j + 1) a (get_or marks a 0)) → cases_of arcs new (set splits (j - 1) x) (j + 1) ≡ inside arcs x.place x.routes.bits (top (cases_of arcs marks splits j)) ∷ outside arcs x.place x.routes.bits (top (cases_of arcs marks splits j)) ∷ under (cases_of arcs marks splits j)
         at zero h l long each = absurd (omega arith)

@@ -6,8 +6,8 @@ use Rattle.std.proofs.lemmas.Bool.{cases_eq, eqb-true}
 use Rattle.plans.specs.Arcs.{arc_at}
 use Rattle.plans.specs.Plans.{next, enters, push, Path, arrival, ended, reaching, fronts, In, Distinct, PartialPlan}
 use Rattle.plans.proofs.Members.{in_left, in_right, in_either, in_map, map_in}
-use Rattle.plans.proofs.Steps.{next_there, next_start, next-enters, enters-next, enters_end, path_join, arrival_join}
-use Rattle.plans.proofs.InOrder.{once-both, once-map}
+use Rattle.plans.proofs.Steps.{next_there, next_start, next_enters, enters_next, enters_end, path_join, arrival_join}
+use Rattle.plans.proofs.InOrder.{once_both, once_map}
 
 module _ (arcs : List Arc) (k v : ℕ) (before : ℕ → List (List ℕ)) where
   abbrev block : ℕ → Bool → List (List ℕ)
@@ -46,15 +46,15 @@ module _ (arcs : List Arc) (k v : ℕ) (before : ℕ → List (List ℕ)) where
   block_last q i false m = absurd m
 
   module _ (each : (u : ℕ) → Distinct (before u)) where
-    block-once : (i : ℕ) (b : Bool) → Distinct (block i b)
-    block-once i true = once-map (push i) (λ p q e. (same_from_push p q i i e).0) (before (arc_at arcs i).start) (each (arc_at arcs i).start)
-    block-once i false = tt
+    block_once : (i : ℕ) (b : Bool) → Distinct (block i b)
+    block_once i true = once_map (push i) (λ p q e. (same_from_push p q i i e).0) (before (arc_at arcs i).start) (each (arc_at arcs i).start)
+    block_once i false = tt
 
     -- each of them is there once: those with different last arcs differ
-    pub ended-once : (i : ℕ) → Distinct (ended arcs k v before i)
-    ended-once zero = tt
-    ended-once (suc i) =
-        once-both (ended arcs k v before i) (block i (enters arcs k v i)) (ended-once i) (block-once i (enters arcs k v i)) (λ q x y.
+    pub ended_once : (i : ℕ) → Distinct (ended arcs k v before i)
+    ended_once zero = tt
+    ended_once (suc i) =
+        once_both (ended arcs k v before i) (block i (enters arcs k v i)) (ended_once i) (block_once i (enters arcs k v i)) (λ q x y.
         let a = ended_out q i x in
         let b = block_last q i (enters arcs k v i) y in
         let s = same_from_push a.1.0 b.0 a.0 i (sym a.1.1.0 ∙ b.1) in
@@ -74,7 +74,7 @@ reaching_out arcs (suc j) v q m =
     let p = b.1.0 in
     let h : enters arcs (suc j) v a ≡ true = b.1.1.1.1.0 in
     let r : PartialPlan arcs 1 0 j (arc_at arcs a).start p = reaching_out arcs j (arc_at arcs a).start p b.1.1.1.1.1 in
-    let on : Path arcs (suc j) (arrival arcs 0 p) (a ∷ []) = (subst (λ u. next arcs (suc j) u a ≡ true) (sym r.ends) (enters-next arcs (suc j) v a h), tt) in
+    let on : Path arcs (suc j) (arrival arcs 0 p) (a ∷ []) = (subst (λ u. next arcs (suc j) u a ≡ true) (sym r.ends) (enters_next arcs (suc j) v a h), tt) in
     subst (PartialPlan arcs 1 0 (suc j) v) (sym b.1.1.0) (record {
       long = omega (arith, length_push p a, r.long);
       path = path_join arcs p (a ∷ []) 1 0 (suc j) (omega (arith, r.long)) r.path on;
@@ -82,25 +82,25 @@ reaching_out arcs (suc j) v q m =
     })
 
 -- a listed partial plan, and arcs that go on from where it ends
-pub reaching-on : (arcs : List Arc) (q : List ℕ) (j u m v : ℕ) (a : List ℕ) → In a (reaching arcs j u) → Path arcs (suc j) u q → j + length q ≡ m → arrival arcs u q ≡ v → In (a ++ q) (reaching arcs m v)
-reaching-on arcs [] j u m v a h w e f =
+pub reaching_on : (arcs : List Arc) (q : List ℕ) (j u m v : ℕ) (a : List ℕ) → In a (reaching arcs j u) → Path arcs (suc j) u q → j + length q ≡ m → arrival arcs u q ≡ v → In (a ++ q) (reaching arcs m v)
+reaching_on arcs [] j u m v a h w e f =
     let s : j ≡ m = omega arith in
     subst (λ x. In x (reaching arcs m v)) (sym (append-nil a)) (subst (λ y. In a (reaching arcs y v)) s (subst (λ y. In a (reaching arcs j y)) f h))
-reaching-on arcs (i ∷ q) j u m v a h w e f =
+reaching_on arcs (i ∷ q) j u m v a h w e f =
     let s = next_start arcs (suc j) u i w.0 in
     let here : In (push i a) (reaching arcs (suc j) (arc_at arcs i).end) =
-    ended_in arcs (suc j) (arc_at arcs i).end (reaching arcs j) (length arcs) i a (next_there arcs (suc j) u i w.0) (next-enters arcs (suc j) u i w.0) (subst (λ y. In a (reaching arcs j y)) (sym s) h) in
-    subst (λ x. In x (reaching arcs m v)) (append_assoc a (i ∷ []) q) (reaching-on arcs q (suc j) (arc_at arcs i).end m v (push i a) here w.1 (omega arith) f)
+    ended_in arcs (suc j) (arc_at arcs i).end (reaching arcs j) (length arcs) i a (next_there arcs (suc j) u i w.0) (next_enters arcs (suc j) u i w.0) (subst (λ y. In a (reaching arcs j y)) (sym s) h) in
+    subst (λ x. In x (reaching arcs m v)) (append_assoc a (i ∷ []) q) (reaching_on arcs q (suc j) (arc_at arcs i).end m v (push i a) here w.1 (omega arith) f)
 
 -- every partial plan of j arcs from the root to a node is listed
 pub reaching_in : (arcs : List Arc) (j v : ℕ) (p : List ℕ) → PartialPlan arcs 1 0 j v p → In p (reaching arcs j v)
-reaching_in arcs j v p h = reaching-on arcs p 0 0 j v [] (inl refl) h.path (omega (arith, h.long)) h.ends
+reaching_in arcs j v p h = reaching_on arcs p 0 0 j v [] (inl refl) h.path (omega (arith, h.long)) h.ends
 
 -- each is listed once
-pub reaching-once : (arcs : List Arc) (j v : ℕ) → Distinct (reaching arcs j v)
-reaching-once arcs zero v = elim (eqb v 0) as (λ b. Distinct (cond b ([] ∷ []) [])) [ true ↦ ((λ m. m), tt) | false ↦ tt ]
-reaching-once arcs (suc j) v = ended-once arcs (suc j) v (reaching arcs j) (reaching-once arcs j) (length arcs)
+pub reaching_once : (arcs : List Arc) (j v : ℕ) → Distinct (reaching arcs j v)
+reaching_once arcs zero v = elim (eqb v 0) as (λ b. Distinct (cond b ([] ∷ []) [])) [ true ↦ ((λ m. m), tt) | false ↦ tt ]
+reaching_once arcs (suc j) v = ended_once arcs (suc j) v (reaching arcs j) (reaching_once arcs j) (length arcs)
 
 -- the list of partial plans from the root to a node has each once
-pub fronts-once : (arcs : List Arc) (k v : ℕ) → Distinct (fronts arcs k v)
-fronts-once arcs k v = reaching-once arcs (k - 1) v
+pub fronts_once : (arcs : List Arc) (k v : ℕ) → Distinct (fronts arcs k v)
+fronts_once arcs k v = reaching_once arcs (k - 1) v

@@ -82,21 +82,21 @@ ordered_once [] o = tt
 ordered_once (p ∷ ps) o = ((λ m. irreflexive p (o.0 p m)), ordered_once ps o.1)
 
 -- two lists that share no plan, each with each of its plans once, joined
-pub once-both : (xs ys : List (List ℕ)) → Distinct xs → Distinct ys → ((p : List ℕ) → In p xs → In p ys → ⊥) → Distinct (xs ++ ys)
-once-both [] ys o r h = r
-once-both (x ∷ xs) ys o r h = (
+pub once_both : (xs ys : List (List ℕ)) → Distinct xs → Distinct ys → ((p : List ℕ) → In p xs → In p ys → ⊥) → Distinct (xs ++ ys)
+once_both [] ys o r h = r
+once_both (x ∷ xs) ys o r h = (
   (λ m. elim (in_either x xs ys m) [ inl k ↦ o.0 k | inr k ↦ h x (inl refl) k ]),
-  once-both xs ys o.1 r (λ p i j. h p (inr i) j),
+  once_both xs ys o.1 r (λ p i j. h p (inr i) j),
 )
 
 -- different plans with different images: each image is there once
-pub once-map : (g : List ℕ → List ℕ) → ((p q : List ℕ) → g p ≡ g q → p ≡ q) → (ps : List (List ℕ)) → Distinct ps → Distinct (map g ps)
-once-map g same [] o = tt
-once-map g same (p ∷ ps) o = (
+pub once_map : (g : List ℕ → List ℕ) → ((p q : List ℕ) → g p ≡ g q → p ≡ q) → (ps : List (List ℕ)) → Distinct ps → Distinct (map g ps)
+once_map g same [] o = tt
+once_map g same (p ∷ ps) o = (
   (λ m. let r = map_in g (g p) ps m in o.0 (subst (λ x. In x ps) (sym (same p r.0 r.1.0)) r.1.1)),
-  once-map g same ps o.1,
+  once_map g same ps o.1,
 )
 
 -- the list of partial plans from a node to the end has each once
-pub backs-once : (n : ℕ) (arcs : List Arc) (k v : ℕ) → Distinct (backs n arcs k v)
-backs-once n arcs k v = ordered_once (backs n arcs k v) (paths_ordered arcs (suc n - k) k v)
+pub backs_once : (n : ℕ) (arcs : List Arc) (k v : ℕ) → Distinct (backs n arcs k v)
+backs_once n arcs k v = ordered_once (backs n arcs k v) (paths_ordered arcs (suc n - k) k v)

@@ -63,9 +63,9 @@ module _ (f : List ℕ → Bool) where
       ]
 
   -- those of two lists joined are those of each, joined
-  pub those-append : (xs ys : List (List ℕ)) → those f (xs ++ ys) ≡ those f xs ++ those f ys
-  those-append [] ys = refl
-  those-append (x ∷ xs) ys = by (f x) (those f (xs ++ ys)) (those f xs) (those-append xs ys)
+  pub those_append : (xs ys : List (List ℕ)) → those f (xs ++ ys) ≡ those f xs ++ those f ys
+  those_append [] ys = refl
+  those_append (x ∷ xs) ys = by (f x) (those f (xs ++ ys)) (those f xs) (those_append xs ys)
     where
       by : (b : Bool) (all some : List (List ℕ)) → all ≡ some ++ those f ys → cond b (x ∷ all) all ≡ cond b (x ∷ some) some ++ those f ys
       by true all some e = ap (λ (zs : List (List ℕ)). x ∷ zs) e

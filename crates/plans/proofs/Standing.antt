@@ -36,12 +36,12 @@ on_some_lem p a (q ∷ qs) (inl e) h = or_left (on a q) (on_some qs a) (ap (on a
 on_some_lem p a (q ∷ qs) (inr m) h = or_right (on a q) (on_some qs a) (on_some_lem p a qs m h)
 
 -- an arc on some plan of a list: that plan
-pub some-on : (a : ℕ) (ps : List (List ℕ)) → on_some ps a ≡ true → (p : List ℕ) × (In p ps × (on a p ≡ true))
-some-on a [] h = absurd (true≢false (sym h))
-some-on a (p ∷ ps) h =
+pub some_on : (a : ℕ) (ps : List (List ℕ)) → on_some ps a ≡ true → (p : List ℕ) × (In p ps × (on a p ≡ true))
+some_on a [] h = absurd (true≢false (sym h))
+some_on a (p ∷ ps) h =
     elim (or_cases (on a p) (on_some ps a) h) [
       | inl k ↦ (p, (inl refl, k))
-      | inr k ↦ let r = some-on a ps k in (r.0, (inr r.1.0, r.1.1))
+      | inr k ↦ let r = some_on a ps k in (r.0, (inr r.1.0, r.1.1))
     ]
 
 -- the first of a list is on it
@@ -75,12 +75,12 @@ module _ (f : List ℕ → ℤ) where
   ]
 
   -- a list with a plan has a cheapest, and no plan of it is cheaper
-  pub cheapest-least : (p : List ℕ) (ps : List (List ℕ)) → In p ps → (q : List ℕ) × ((cheapest f ps ≡ Some q) × (f q ≤ℤ f p))
-  cheapest-least p [] m = absurd m
-  cheapest-least p (x ∷ xs) (inl e) =
+  pub cheapest_least : (p : List ℕ) (ps : List (List ℕ)) → In p ps → (q : List ℕ) × ((cheapest f ps ≡ Some q) × (f q ≤ℤ f p))
+  cheapest_least p [] m = absurd m
+  cheapest_least p (x ∷ xs) (inl e) =
       (lesser f x (cheapest f xs), (refl, subst (λ y. f (lesser f x (cheapest f xs)) ≤ℤ f y) (sym e) (lesser_first x (cheapest f xs))))
-  cheapest-least p (x ∷ xs) (inr m) =
-      let r = cheapest-least p xs m in
+  cheapest_least p (x ∷ xs) (inr m) =
+      let r = cheapest_least p xs m in
       let k : f (lesser f x (cheapest f xs)) ≤ℤ f r.0 = subst (λ o. f (lesser f x o) ≤ℤ f r.0) (sym r.1.0) (lesser_rest x r.0) in
       (lesser f x (cheapest f xs), (refl, omega (arith, ints, k, r.1.1)))
 
@@ -114,8 +114,8 @@ module _ (f : List ℕ → ℤ) where
       subst (λ w. (w ≡ q) ⊎ Before w q) z
       (lesser_before x q xs (cheapest f xs) o.0 (λ y u v w. cheapest_first y q xs o.1 u v w) m (subst (λ w. f q ≤ℤ f w) (sym z) l))
 
-some-none : (p : List ℕ) → Some p ≡ None → ⊥
-some-none p e = let z : ◌≡◌ {A = ℕ} 0 1 = cc in omega arith
+some_none : (p : List ℕ) → Some p ≡ None → ⊥
+some_none p e = let z : ◌≡◌ {A = ℕ} 0 1 = cc in omega arith
 
 none : (o : Option (List ℕ)) → ((p : List ℕ) → o ≡ Some p → ⊥) → o ≡ None
 none None h = refl
@@ -150,11 +150,11 @@ module _ (n : ℕ) (arcs : List Arc) (s : Case) where
   same p q (inr h) (inr k) = absurd (antisymmetric p q h k)
 
   module _ (f : List ℕ → ℤ) where
-    first-least : (p : List ℕ) → cheapest f (standing n arcs s) ≡ Some p → FirstLeast n arcs s f p
-    first-least p e = record {
+    first_least : (p : List ℕ) → cheapest f (standing n arcs s) ≡ Some p → FirstLeast n arcs s f p
+    first_least p e = record {
       stands = in_stands p (cheapest_in f p (standing n arcs s) e);
       least = λ q h.
-          let r = cheapest-least f q (standing n arcs s) (stands_in q h) in
+          let r = cheapest_least f q (standing n arcs s) (stands_in q h) in
           let z : r.0 ≡ p = taken r.0 p (cheapest f (standing n arcs s)) r.1.0 e in
           subst (λ x. f x ≤ℤ f q) z r.1.1;
       first = λ q h l. cheapest_first f p q (standing n arcs s) standing_ordered e (stands_in q h) l;
@@ -165,8 +165,8 @@ module _ (n : ℕ) (arcs : List Arc) (s : Case) where
 
     least_first : (p : List ℕ) → FirstLeast n arcs s f p → cheapest f (standing n arcs s) ≡ Some p
     least_first p h =
-        let r = cheapest-least f p (standing n arcs s) (stands_in p h.stands) in
-        let g = first-least r.0 r.1.0 in
+        let r = cheapest_least f p (standing n arcs s) (stands_in p h.stands) in
+        let g = first_least r.0 r.1.0 in
         r.1.0 ∙ ap (λ (x : List ℕ). Some x) (same p r.0 (h.first r.0 g.stands r.1.1) (g.first p h.stands (h.least r.0 g.stands)))
 
     meant : Meant n arcs s f
@@ -180,15 +180,15 @@ module _ (n : ℕ) (arcs : List Arc) (s : Case) where
             r.1 ∙ ap (λ (x : List ℕ). Some x) (same p r.0 (h.first r.0 (in_stands r.0 i)) (foremost_first r.0 p (standing n arcs s) standing_ordered r.1 (stands_in p h.stands)))),
       );
       unsampled = (
-        (λ e p h. let r = in_foremost p (standing n arcs s) (stands_in p h) in some-none r.0 (sym r.1 ∙ e)),
+        (λ e p h. let r = in_foremost p (standing n arcs s) (stands_in p h) in some_none r.0 (sym r.1 ∙ e)),
         (λ h. none (foremost (standing n arcs s)) (λ p e. h p (in_stands p (foremost_in p (standing n arcs s) e)))),
       );
-      priced = λ p. (first-least p, least_first p);
+      priced = λ p. (first_least p, least_first p);
       unpriced = (
-        (λ e p h. let r = cheapest-least f p (standing n arcs s) (stands_in p h) in some-none r.0 (sym r.1.0 ∙ e)),
-        (λ h. none (cheapest f (standing n arcs s)) (λ p e. h p (first-least p e).stands)),
+        (λ e p h. let r = cheapest_least f p (standing n arcs s) (stands_in p h) in some_none r.0 (sym r.1.0 ∙ e)),
+        (λ h. none (cheapest f (standing n arcs s)) (λ p e. h p (first_least p e).stands)),
       );
-      touched = λ ps a. (some-on a ps, λ h. on_some_lem h.0 a ps h.1.0 h.1.1);
+      touched = λ ps a. (some_on a ps, λ h. on_some_lem h.0 a ps h.1.0 h.1.1);
       parted = λ ps m. both_sizes ps s m;
     }
 

@@ -26,8 +26,8 @@ pub enters_there : (arcs : List Arc) (k v a : ℕ) → enters arcs k v a ≡ tru
 enters_there arcs k v a h = ltb-true a (length arcs) (and_parts (ltb a (length arcs)) _ h).0
 
 -- an arc that enters a node is of that place
-pub enters-place : (arcs : List Arc) (k v a : ℕ) → enters arcs k v a ≡ true → (arc_at arcs a).place ≡ k
-enters-place arcs k v a h = eqb-true _ k (and_parts (eqb (arc_at arcs a).place k) _ (and_parts (ltb a (length arcs)) _ h).1).0
+pub enters_place : (arcs : List Arc) (k v a : ℕ) → enters arcs k v a ≡ true → (arc_at arcs a).place ≡ k
+enters_place arcs k v a h = eqb-true _ k (and_parts (eqb (arc_at arcs a).place k) _ (and_parts (ltb a (length arcs)) _ h).1).0
 
 -- an arc that enters a node ends there
 pub enters_end : (arcs : List Arc) (k v a : ℕ) → enters arcs k v a ≡ true → (arc_at arcs a).end ≡ v
@@ -38,12 +38,12 @@ pub enters_from : (arcs : List Arc) (k v a : ℕ) → a < length arcs → (arc_a
 enters_from arcs k v a l e f = and_from _ _ (lt-ltb a (length arcs) l) (and_from _ _ (eq-eqb _ k e) (eq-eqb _ v f))
 
 -- an arc that enters a node may come next at its start
-pub enters-next : (arcs : List Arc) (k v a : ℕ) → enters arcs k v a ≡ true → next arcs k (arc_at arcs a).start a ≡ true
-enters-next arcs k v a h = next_from arcs k (arc_at arcs a).start a (enters_there arcs k v a h) (enters-place arcs k v a h) refl
+pub enters_next : (arcs : List Arc) (k v a : ℕ) → enters arcs k v a ≡ true → next arcs k (arc_at arcs a).start a ≡ true
+enters_next arcs k v a h = next_from arcs k (arc_at arcs a).start a (enters_there arcs k v a h) (enters_place arcs k v a h) refl
 
 -- an arc that comes next enters its end
-pub next-enters : (arcs : List Arc) (k v a : ℕ) → next arcs k v a ≡ true → enters arcs k (arc_at arcs a).end a ≡ true
-next-enters arcs k v a h = enters_from arcs k (arc_at arcs a).end a (next_there arcs k v a h) (next_place arcs k v a h) refl
+pub next_enters : (arcs : List Arc) (k v a : ℕ) → next arcs k v a ≡ true → enters arcs k (arc_at arcs a).end a ≡ true
+next_enters arcs k v a h = enters_from arcs k (arc_at arcs a).end a (next_there arcs k v a h) (next_place arcs k v a h) refl
 
 -- a partial plan and one that goes on from where it ends, joined
 pub path_join : (arcs : List Arc) (p q : List ℕ) (k u m : ℕ) → k + length p ≡ m → Path arcs k u p → Path arcs m (arrival arcs u p) q → Path arcs k u (p ++ q)

@@ -4,8 +4,8 @@ use Rattle.std.proofs.lemmas.List.{get_or-map, length-map}
 use Rattle.rules.specs.Rules.{Rule, no_rule, counted}
 
 -- the count is that of the list
-pub counted-map : {X : Type 0} (f : X → Rule) (xs : List X) → min (length xs) 129 ≡ counted (map f xs)
-counted-map f xs = omega (arith, length-map xs f)
+pub counted_map : {X : Type 0} (f : X → Rule) (xs : List X) → min (length xs) 129 ≡ counted (map f xs)
+counted_map f xs = omega (arith, length-map xs f)
 
 -- a rule below the count is made from an element of the list
 pub within_map : {X : Type 0} (f : X → Rule) (xs : List X) (r : ℕ) → r < counted (map f xs) → r < length xs

@@ -22,12 +22,12 @@ pub some_weight : (rs : List Rule) (r place route : ℕ) (u : Rule) → r < coun
 some_weight rs r place route u h g e = let l = lt-ltb r (counted rs) h in rw (l, g, e)
 
 -- a place from 1 to 32 and a route below 64 are on the grid
-pub on-grid : (place route : ℕ) → 1 ≤ place → place ≤ 32 → route < 64 → on_grid place route ≡ true
-on-grid place route h k l = grind (arith, nat_tests)
+pub on_grid_lem : (place route : ℕ) → 1 ≤ place → place ≤ 32 → route < 64 → on_grid place route ≡ true
+on_grid_lem place route h k l = grind (arith, nat_tests)
 
 -- and nothing else is
-pub grid-known : (place route : ℕ) → on_grid place route ≡ true → (1 ≤ place) × (place ≤ 32) × (route < 64)
-grid-known place route g =
+pub grid_known : (place route : ℕ) → on_grid place route ≡ true → (1 ≤ place) × (place ≤ 32) × (route < 64)
+grid_known place route g =
     let o = and_parts (leb 1 place && leb place 32) (leb route 63) g in
     let p = and_parts (leb 1 place) (leb place 32) o.0 in
     (leb-true 1 place p.0, leb-true place 32 p.1, omega (arith, leb-true route 63 o.1))

@@ -5,11 +5,11 @@ use Rattle.rules.specs.declared.order.Precedence.{Precedence}
 use Rattle.rules.specs.Rules.{counted, head_of, on_grid, weight_of}
 use Rattle.rules.specs.Makes.{order_rule, order_rules, order_weight}
 use Rattle.rules.proofs.Given.{some_head, some_weight}
-use Rattle.rules.proofs.Each.{counted-map, rule_at, within_map}
+use Rattle.rules.proofs.Each.{counted_map, rule_at, within_map}
 
 -- there is a rule for each pair
 pub order_counted : (es : List Precedence) → min (length es) 129 ≡ counted (order_rules es)
-order_counted es = counted-map order_rule es
+order_counted es = counted_map order_rule es
 
 -- a rule below the count is that of a pair of the list
 pub order_there : (es : List Precedence) (r : ℕ) → r < counted (order_rules es) → r < length es

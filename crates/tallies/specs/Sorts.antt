@@ -47,11 +47,11 @@ reach_chooses true y = inl refl
 reach_chooses false y = inr refl
 
 -- extension by one price tells least amounts apart
-pub least-apart : (x y : Option ℤ) (p : ℤ) → least_extend x p ≡ least_extend y p → x ≡ y
-least-apart None None p e = refl
-least-apart None (Some y) p e = let z : ◌≡◌ {A = ℕ} 0 1 = cc in absurd (omega arith)
-least-apart (Some x) None p e = let z : ◌≡◌ {A = ℕ} 0 1 = cc in absurd (omega arith)
-least-apart (Some x) (Some y) p e = let s : x +ℤ p ≡ y +ℤ p = cc in ap Some (omega (arith, ints))
+pub least_apart : (x y : Option ℤ) (p : ℤ) → least_extend x p ≡ least_extend y p → x ≡ y
+least_apart None None p e = refl
+least_apart None (Some y) p e = let z : ◌≡◌ {A = ℕ} 0 1 = cc in absurd (omega arith)
+least_apart (Some x) None p e = let z : ◌≡◌ {A = ℕ} 0 1 = cc in absurd (omega arith)
+least_apart (Some x) (Some y) p e = let s : x +ℤ p ≡ y +ℤ p = cc in ap Some (omega (arith, ints))
 
 -- the two directions
 pub onward_lawful : HeadingLaws (λ x. x.start) (λ x. x.end) (λ (n k : ℕ). suc k) (λ (n k : ℕ). k)

@@ -5,9 +5,9 @@ use Rattle.terms.specs.declared.arc.Arc.{Arc}
 use Rattle.rules.specs.Rules.{Rule, no_rule, InRange}
 use Rattle.amounts.specs.Amounts.{owed, arc_price}
 use Rattle.amounts.specs.Sums.{sum_to, worth_of, owed_of}
-use Rattle.amounts.proofs.Lowest.{fair-length}
-use Rattle.amounts.proofs.Sums.{sum_more, worth-sum, owed-sum}
-use Rattle.amounts.proofs.Sizes.{add_size, sum-size, worth_of_size, owed_of_size}
+use Rattle.amounts.proofs.Lowest.{fair_length}
+use Rattle.amounts.proofs.Sums.{sum_more, worth_sum, owed_sum}
+use Rattle.amounts.proofs.Sizes.{add_size, sum_size, worth_of_size, owed_of_size}
 use Rattle.through.specs.Pricings.{Priceable, Gridded, Collected}
 
 -- sums of the same numbers, as far as they go
@@ -48,16 +48,16 @@ module _ (zs : List ℤ) (m : ℕ) (numbers : List ℕ) (count : ℕ) (c : Colle
 module _ (us : List Rule) (zs : List ℤ) (numbers : List ℕ) (count : ℕ) (asked : Priceable us zs) (c : Collected zs (length zs) numbers count) where
   -- the number of one of them is that of a rule
   pub active_below : (j : ℕ) → j < count → get_or numbers j 0 < length us
-  active_below j l = omega (arith, c.below j l, fair-length us zs asked.fair)
+  active_below j l = omega (arith, c.below j l, fair_length us zs asked.fair)
 
   -- an arc's price is made by these rules alone
   pub active_price : (x : Arc) → pos (1000 * x.minutes) +ℤ sum_to (λ j. worth_of us zs x.place x.route (get_or numbers j 0)) count ≡ arc_price us zs x
   active_price x =
-      let e = fair-length us zs asked.fair in
+      let e = fair_length us zs asked.fair in
       ap (λ y. pos (1000 * x.minutes) +ℤ y) (
       c.whole (worth_of us zs x.place x.route) (λ r h. ap (λ y. y *ℤ (get_or us r no_rule).weight x.place x.route) h ∙ zero-*ℤ ((get_or us r no_rule).weight x.place x.route))
       ∙ ap (sum_to (worth_of us zs x.place x.route)) e
-      ∙ sym (worth-sum us zs x.place x.route e))
+      ∙ sym (worth_sum us zs x.place x.route e))
 
   -- as far as the first j of them make it, it is small, and so is the next one's part
   pub active_part_size : InRange us → (x : Arc) → Gridded x → (j : ℕ) → j < count → nat_abs (worth_of us zs x.place x.route (get_or numbers j 0)) ≤ 10_000_000_000_000
@@ -66,21 +66,21 @@ module _ (us : List Rule) (zs : List ℤ) (numbers : List ℕ) (count : ℕ) (as
 
   pub active_front_size : InRange us → (x : Arc) → Gridded x → (j : ℕ) → j ≤ count → nat_abs (pos (1000 * x.minutes) +ℤ sum_to (λ i. worth_of us zs x.place x.route (get_or numbers i 0)) j) ≤ 1_300_000_000_000_000
   active_front_size range x fit j l =
-      let all = sum-size (λ i. worth_of us zs x.place x.route (get_or numbers i 0)) 10_000_000_000_000 j (λ i h. active_part_size range x fit i (omega arith)) in
-      omega (arith, add_size (pos (1000 * x.minutes)) (sum_to (λ i. worth_of us zs x.place x.route (get_or numbers i 0)) j), all, fit.short, c.few, asked.few, fair-length us zs asked.fair)
+      let all = sum_size (λ i. worth_of us zs x.place x.route (get_or numbers i 0)) 10_000_000_000_000 j (λ i h. active_part_size range x fit i (omega arith)) in
+      omega (arith, add_size (pos (1000 * x.minutes)) (sum_to (λ i. worth_of us zs x.place x.route (get_or numbers i 0)) j), all, fit.short, c.few, asked.few, fair_length us zs asked.fair)
 
   -- and so is the limits' share
   pub active_share : sum_to (λ j. owed_of us zs (get_or numbers j 0)) count ≡ owed us zs
   active_share =
-      let e = fair-length us zs asked.fair in
+      let e = fair_length us zs asked.fair in
       c.whole (owed_of us zs) (λ r h. ap (λ y. neg_ℤ (y *ℤ (get_or us r no_rule).limit)) h ∙ ap neg_ℤ (zero-*ℤ (get_or us r no_rule).limit))
       ∙ ap (sum_to (owed_of us zs)) e
-      ∙ sym (owed-sum us zs e)
+      ∙ sym (owed_sum us zs e)
 
   pub active_owed_size : InRange us → (j : ℕ) → j < count → nat_abs (owed_of us zs (get_or numbers j 0)) ≤ 1_000_000_000_000_000
   active_owed_size range j l = owed_of_size us zs range asked.fair (get_or numbers j 0) (active_below j l)
 
   pub active_share_size : InRange us → (j : ℕ) → j ≤ count → nat_abs (sum_to (λ i. owed_of us zs (get_or numbers i 0)) j) ≤ 128_000_000_000_000_000
   active_share_size range j l =
-      let all = sum-size (λ i. owed_of us zs (get_or numbers i 0)) 1_000_000_000_000_000 j (λ i h. active_owed_size range i (omega arith)) in
-      omega (arith, all, c.few, asked.few, fair-length us zs asked.fair)
+      let all = sum_size (λ i. owed_of us zs (get_or numbers i 0)) 1_000_000_000_000_000 j (λ i h. active_owed_size range i (omega arith)) in
+      omega (arith, all, c.few, asked.few, fair_length us zs asked.fair)

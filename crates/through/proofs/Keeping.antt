@@ -11,7 +11,7 @@ use Rattle.plans.specs.Cases.{Case, those, standing, on_some, kept, gone}
 use Rattle.plans.specs.Firsts.{cheapest, amount_in}
 use Rattle.plans.proofs.Members.{those_in, those_out}
 use Rattle.plans.proofs.Steps.{next_from}
-use Rattle.plans.proofs.Standing.{on_some_lem, some-on, cheapest-least, cheapest_in}
+use Rattle.plans.proofs.Standing.{on_some_lem, some_on, cheapest_least, cheapest_in}
 use Rattle.tallies.specs.Laws.{wide, steep}
 use Rattle.tallies.specs.Kinds.{least_extend, least_size}
 use Rattle.tallies.specs.declared.tally.Tally.{Ghosts}
@@ -19,12 +19,12 @@ use Rattle.tallies.specs.Sorts.{least_lawful}
 use Rattle.ways.specs.Amounts.{along, along_back, joining, price_at, entry, Forward, Backward}
 use Rattle.ways.specs.Directions.{onward}
 use Rattle.ways.specs.Sums.{price_sum, leasts, reaches}
-use Rattle.ways.proofs.Sums.{way-narrow}
-use Rattle.ways.proofs.Turns.{forward-way}
+use Rattle.ways.proofs.Sums.{way_narrow}
+use Rattle.ways.proofs.Turns.{forward_way}
 use Rattle.ways.proofs.Levels.{end_node, amount_narrow}
 use Rattle.through.specs.Keeping.{through_arc, below, amount_before, amount_behind, kept_below, kept_reached, start_entry, end_entry, AllEntered, table_below, Tabled}
 use Rattle.through.proofs.Bools.{same_bool}
-use Rattle.through.proofs.Splits.{on-made, befores, behinds, parted, joined}
+use Rattle.through.proofs.Splits.{on_made, befores, behinds, parted, joined}
 use Rattle.through.proofs.Minima.{sum_join, forward_joined, backward_joined}
 
 -- LEAST
@@ -58,20 +58,20 @@ module _ (n : ℕ) (arcs : List Arc) (sealed : Sealed n arcs) (s : Case) (price 
   test u v = below (least_extend (through_arc (amount_in g u) (price a) (amount_in g v)) share) mark
 
   -- the amount of a plan through the arc
-  through-sum : (u v : List ℕ) → In (u ++ a ∷ v) (standing n arcs s) → f (u ++ a ∷ v) ≡ (g u +ℤ (price a +ℤ g v)) +ℤ share
-  through-sum u v m = same (u ++ a ∷ v) m ∙ ap (λ x. x +ℤ share) (sum_join price u (a ∷ v))
+  through_sum : (u v : List ℕ) → In (u ++ a ∷ v) (standing n arcs s) → f (u ++ a ∷ v) ≡ (g u +ℤ (price a +ℤ g v)) +ℤ share
+  through_sum u v m = same (u ++ a ∷ v) m ∙ ap (λ x. x +ℤ share) (sum_join price u (a ∷ v))
 
   -- where a standing plan through the arc is priced below the mark, the test says yes
   on_below : on_some cheap a ≡ true → test (cheapest g F) (cheapest g B) ≡ true
   on_below e =
-      let r = some-on a cheap e in
+      let r = some_on a cheap e in
       let p = r.0 in
       let w = those_out (λ q. lt_z (f q) mark) p (standing n arcs s) r.1.0 in
       let t = parted n arcs sealed s a l p w.1 r.1.1 in
-      let u = cheapest-least g t.front F t.before in
-      let v = cheapest-least g t.back B t.behind in
+      let u = cheapest_least g t.front F t.before in
+      let v = cheapest_least g t.back B t.behind in
       let in_all : In (t.front ++ a ∷ t.back) (standing n arcs s) = subst (λ q. In q (standing n arcs s)) t.whole w.1 in
-      let low : lt_z ((g t.front +ℤ (price a +ℤ g t.back)) +ℤ share) mark ≡ true = ap (λ x. lt_z x mark) (sym (ap f t.whole ∙ through-sum t.front t.back in_all)) ∙ w.0 in
+      let low : lt_z ((g t.front +ℤ (price a +ℤ g t.back)) +ℤ share) mark ≡ true = ap (λ x. lt_z x mark) (sym (ap f t.whole ∙ through_sum t.front t.back in_all)) ∙ w.0 in
       ap (λ (o : Option (List ℕ)). test o (cheapest g B)) u.1.0
       ∙ ap (λ (o : Option (List ℕ)). test (Some u.0) o) v.1.0
       ∙ lower (g u.0) (g v.0) (g t.front) (g t.back) (price a) share mark u.1.1 v.1.1 low
@@ -83,7 +83,7 @@ module _ (n : ℕ) (arcs : List Arc) (sealed : Sealed n arcs) (s : Case) (price 
   below_on st (Some u) None ex ey e = absurd (false≢true e)
   below_on st (Some u) (Some v) ex ey e =
       let m = joined n arcs sealed s a l st u v (cheapest_in g u F ex) (cheapest_in g v B ey) in
-      on_some_lem (u ++ a ∷ v) a cheap (those_in (λ q. lt_z (f q) mark) (u ++ a ∷ v) (standing n arcs s) (ap (λ x. lt_z x mark) (through-sum u v m ∙ sym (regroup (g u) (price a) (g v) share)) ∙ e) m) (on-made a u v)
+      on_some_lem (u ++ a ∷ v) a cheap (those_in (λ q. lt_z (f q) mark) (u ++ a ∷ v) (standing n arcs s) (ap (λ x. lt_z x mark) (through_sum u v m ∙ sym (regroup (g u) (price a) (g v) share)) ∙ e) m) (on_made a u v)
 
   -- the amounts before and behind are those of the cheapest partial plans
   test_is : kept_below n arcs s price share mark a ≡ test (cheapest g F) (cheapest g B)
@@ -92,15 +92,15 @@ module _ (n : ℕ) (arcs : List Arc) (sealed : Sealed n arcs) (s : Case) (price 
       ∙ ap (λ (o : Option ℤ). below (least_extend (through_arc (amount_in g (cheapest g F)) (price a) o) share) mark) (backward_joined price B)
 
   -- so the amounts before and behind an arc tell whether it is kept, and whether it goes
-  pub below-kept : (s a && kept_below n arcs s price share mark a) ≡ kept cheap s a
-  below-kept = by (s a) refl
+  pub below_kept : (s a && kept_below n arcs s price share mark a) ≡ kept cheap s a
+  below_kept = by (s a) refl
     where
       by : (b : Bool) → s a ≡ b → (b && kept_below n arcs s price share mark a) ≡ (b && on_some cheap a)
       by true e = test_is ∙ same_bool _ _ (below_on e (cheapest g F) (cheapest g B) refl refl) on_below
       by false e = refl
 
-  pub below-gone : (s a && not (kept_below n arcs s price share mark a)) ≡ gone cheap s a
-  below-gone = by (s a) refl
+  pub below_gone : (s a && not (kept_below n arcs s price share mark a)) ≡ gone cheap s a
+  below_gone = by (s a) refl
     where
       by : (b : Bool) → s a ≡ b → (b && not (kept_below n arcs s price share mark a)) ≡ (b && not (on_some cheap a))
       by true e = ap not (test_is ∙ same_bool _ _ (below_on e (cheapest g F) (cheapest g B) refl refl) on_below)
@@ -155,7 +155,7 @@ module _ (n : ℕ) (arcs : List Arc) (sealed : Sealed n arcs) (s : Case) (price 
   -- a standing plan through the arc has both parts
   on_reached : on_some (standing n arcs s) a ≡ true → (has F' && has B') ≡ true
   on_reached e =
-      let r = some-on a (standing n arcs s) e in
+      let r = some_on a (standing n arcs s) e in
       let t = parted n arcs sealed s a l r.0 r.1.0 r.1.1 in
       and_from _ _ (in_has F' t.front t.before) (in_has B' t.back t.behind)
 
@@ -165,7 +165,7 @@ module _ (n : ℕ) (arcs : List Arc) (sealed : Sealed n arcs) (s : Case) (price 
       let t = and_parts (has F') (has B') e in
       let u = has_in F' t.0 in
       let v = has_in B' t.1 in
-      on_some_lem (u.0 ++ a ∷ v.0) a (standing n arcs s) (joined n arcs sealed s a l st u.0 v.0 u.1 v.1) (on-made a u.0 v.0)
+      on_some_lem (u.0 ++ a ∷ v.0) a (standing n arcs s) (joined n arcs sealed s a l st u.0 v.0 u.1 v.1) (on_made a u.0 v.0)
 
   -- a standing plan goes through an arc exactly if both its ends are reached
   pub reached_kept : (s a && kept_reached n arcs s price a) ≡ kept (standing n arcs s) s a
@@ -201,8 +201,8 @@ module _ (n : ℕ) (arcs : List Arc) (sealed : Sealed n arcs) (a : ℕ) (l : a <
 
   module _ {X A : Type 0} (t : Ghosts X A) (s : Case) (price : ℕ → ℤ) (fore back : List A) where
     -- what filled tables hold at them
-    pub read-before : Forward t n arcs s price fore → get_or fore (start_entry (arc_at arcs a)) t.nothing ≡ amount_before t arcs s price a
-    read-before h = h (arc_at arcs a).place (arc_at arcs a).start start_node
+    pub read_before : Forward t n arcs s price fore → get_or fore (start_entry (arc_at arcs a)) t.nothing ≡ amount_before t arcs s price a
+    read_before h = h (arc_at arcs a).place (arc_at arcs a).start start_node
 
     pub read_behind : Backward t n arcs s price back → get_or back (end_entry (arc_at arcs a)) t.nothing ≡ amount_behind t n arcs s price a
     read_behind h = ap (λ q. get_or back q t.nothing) end_spot ∙ h (suc (arc_at arcs a).place) (arc_at arcs a).end final_node
@@ -213,10 +213,10 @@ module _ (n : ℕ) (arcs : List Arc) (sealed : Sealed n arcs) (a : ℕ) (l : a <
     before_small =
         let few = sealed.few in
         let high = (sealed.arc a l).placed.1 in
-        subst (λ (o : Option ℤ). least_size o < wide) (sym (forward-way leasts price n arcs s (arc_at arcs a).place (arc_at arcs a).start (sealed.arc a l).placed.0)) (way-narrow leasts least_lawful onward n arcs s price small ((arc_at arcs a).place - 1) (arc_at arcs a).start (omega arith))
+        subst (λ (o : Option ℤ). least_size o < wide) (sym (forward_way leasts price n arcs s (arc_at arcs a).place (arc_at arcs a).start (sealed.arc a l).placed.0)) (way_narrow leasts least_lawful onward n arcs s price small ((arc_at arcs a).place - 1) (arc_at arcs a).start (omega arith))
 
-    pub behind-small : least_size (amount_behind leasts n arcs s price a) < wide
-    behind-small = amount_narrow leasts least_lawful n arcs sealed s price small (suc (arc_at arcs a).place) (arc_at arcs a).end final_node
+    pub behind_small : least_size (amount_behind leasts n arcs s price a) < wide
+    behind_small = amount_narrow leasts least_lawful n arcs sealed s price small (suc (arc_at arcs a).place) (arc_at arcs a).end final_node
 
 -- a sealed chart's arcs have entries
 pub sealed_entered : (n : ℕ) (arcs : List Arc) → Sealed n arcs → AllEntered arcs
@@ -233,12 +233,12 @@ module _ (n : ℕ) (arcs : List Arc) (sealed : Sealed n arcs) (s : Case) (prices
     small = λ a l. omega (arith, small a);
     fronts_long = fl;
     backs_long = bl;
-    front_small = λ a l. subst (λ (o : Option ℤ). least_size o < wide) (sym (read-before n arcs sealed a l leasts s (price_at prices) fore back ahead)) (before_small n arcs sealed a l s (price_at prices) small);
-    back_small = λ a l. subst (λ (o : Option ℤ). least_size o < wide) (sym (read_behind n arcs sealed a l leasts s (price_at prices) fore back home)) (behind-small n arcs sealed a l s (price_at prices) small);
+    front_small = λ a l. subst (λ (o : Option ℤ). least_size o < wide) (sym (read_before n arcs sealed a l leasts s (price_at prices) fore back ahead)) (before_small n arcs sealed a l s (price_at prices) small);
+    back_small = λ a l. subst (λ (o : Option ℤ). least_size o < wide) (sym (read_behind n arcs sealed a l leasts s (price_at prices) fore back home)) (behind_small n arcs sealed a l s (price_at prices) small);
   }
 
   -- what they say
   pub table_below_lem : (share mark : ℤ) (a : ℕ) → a < length arcs → table_below arcs prices fore back share mark a ≡ kept_below n arcs s (price_at prices) share mark a
   table_below_lem share mark a l =
-      ap (λ (o : Option ℤ). below (least_extend (through_arc o (price_at prices a) (get_or back (end_entry (arc_at arcs a)) None)) share) mark) (read-before n arcs sealed a l leasts s (price_at prices) fore back ahead)
+      ap (λ (o : Option ℤ). below (least_extend (through_arc o (price_at prices a) (get_or back (end_entry (arc_at arcs a)) None)) share) mark) (read_before n arcs sealed a l leasts s (price_at prices) fore back ahead)
       ∙ ap (λ (o : Option ℤ). below (least_extend (through_arc (amount_before leasts arcs s (price_at prices) a) (price_at prices a) o) share) mark) (read_behind n arcs sealed a l leasts s (price_at prices) fore back home)

@@ -60,22 +60,22 @@ module _ (f h : List ℕ → ℤ) (z : ℤ) where
   lesser_shift p (Some q) = ap (λ b. cond b q p) (same_less (f p) (f q) z)
 
   -- and so of many
-  cheapest-more : (ps : List (List ℕ)) → cheapest f ps ≡ cheapest (λ q. f q +ℤ z) ps
-  cheapest-more [] = refl
-  cheapest-more (p ∷ ps) = ap Some (ap (lesser f p) (cheapest-more ps) ∙ lesser_shift p (cheapest (λ q. f q +ℤ z) ps))
+  cheapest_more : (ps : List (List ℕ)) → cheapest f ps ≡ cheapest (λ q. f q +ℤ z) ps
+  cheapest_more [] = refl
+  cheapest_more (p ∷ ps) = ap Some (ap (lesser f p) (cheapest_more ps) ∙ lesser_shift p (cheapest (λ q. f q +ℤ z) ps))
 
   module _ (ps : List (List ℕ)) (same : (p : List ℕ) → In p ps → h p ≡ f p +ℤ z) where
     -- the same plan is the cheapest, with the share or without
-    pub cheapest-shift : cheapest f ps ≡ cheapest h ps
-    cheapest-shift = cheapest-more ps ∙ sym (cheapest_same h (λ q. f q +ℤ z) ps same)
+    pub cheapest_shift : cheapest f ps ≡ cheapest h ps
+    cheapest_shift = cheapest_more ps ∙ sym (cheapest_same h (λ q. f q +ℤ z) ps same)
 
     -- the amount of a plan with the share
-    amount-more : (o : Option (List ℕ)) → ((p : List ℕ) → o ≡ Some p → h p ≡ f p +ℤ z) → least_extend (amount_in f o) z ≡ amount_in h o
-    amount-more None e = refl
-    amount-more (Some p) e = ap Some (sym (e p refl))
+    amount_more : (o : Option (List ℕ)) → ((p : List ℕ) → o ≡ Some p → h p ≡ f p +ℤ z) → least_extend (amount_in f o) z ≡ amount_in h o
+    amount_more None e = refl
+    amount_more (Some p) e = ap Some (sym (e p refl))
 
     -- and the share enters its amount once
-    pub amount-shift : least_extend (amount_in f (cheapest f ps)) z ≡ amount_in h (cheapest h ps)
-    amount-shift =
-        ap (λ (o : Option (List ℕ)). least_extend (amount_in f o) z) cheapest-shift
-        ∙ amount-more (cheapest h ps) (λ p e. same p (cheapest_in h p ps e))
+    pub amount_shift : least_extend (amount_in f (cheapest f ps)) z ≡ amount_in h (cheapest h ps)
+    amount_shift =
+        ap (λ (o : Option (List ℕ)). least_extend (amount_in f o) z) cheapest_shift
+        ∙ amount_more (cheapest h ps) (λ p e. same p (cheapest_in h p ps e))

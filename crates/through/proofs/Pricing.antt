@@ -11,17 +11,17 @@ use Rattle.plans.proofs.Standing.{in_stands}
 use Rattle.rules.specs.Rules.{Rule, InRange}
 use Rattle.amounts.specs.Amounts.{amount, owed, arc_price, price_sum as prices_of}
 use Rattle.amounts.proofs.Exchange.{priced_by_sum}
-use Rattle.amounts.proofs.Sizes.{price-size, owed-size, arc_grid}
+use Rattle.amounts.proofs.Sizes.{price_size, owed_size, arc_grid}
 use Rattle.tallies.specs.Laws.{wide, steep}
 use Rattle.tallies.specs.Kinds.{least_extend, least_size}
 use Rattle.tallies.specs.Sorts.{least_lawful}
 use Rattle.ways.specs.Amounts.{marked, price_at, Sweepable}
 use Rattle.ways.specs.Sums.{price_sum, leasts}
-use Rattle.ways.proofs.Firsts.{least-standing}
+use Rattle.ways.proofs.Firsts.{least_standing}
 use Rattle.ways.proofs.Levels.{root_node, amount_narrow}
 use Rattle.through.specs.Pricings.{problem, Priceable, AllGridded, standing_price}
 use Rattle.through.proofs.Passed.{passed, passed_is}
-use Rattle.through.proofs.Minima.{cheapest-shift, amount-shift}
+use Rattle.through.proofs.Minima.{cheapest_shift, amount_shift}
 
 -- the arcs of a sealed chart are on the grid
 pub sealed_gridded : (n : ℕ) (arcs : List Arc) → Sealed n arcs → AllGridded arcs
@@ -29,7 +29,7 @@ sealed_gridded n arcs sealed a l = record { placed = arc_grid n arcs sealed a l;
 
 -- no share is too large
 pub share_small : (us : List Rule) (zs : List ℤ) → Priceable us zs → InRange us → nat_abs (owed us zs) < wide
-share_small us zs asked range = omega (arith, owed-size us zs range asked.fair asked.few)
+share_small us zs asked range = omega (arith, owed_size us zs range asked.fair asked.few)
 
 module _ (n : ℕ) (arcs : List Arc) (us : List Rule) (zs : List ℤ) (s : Case) where
   -- the price of an arc that is there and stands
@@ -43,7 +43,7 @@ module _ (n : ℕ) (arcs : List Arc) (us : List Rule) (zs : List ℤ) (s : Case)
       by : (b : Bool) → (ltb a (length arcs) && s a) ≡ b → nat_abs (cond b (arc_price us zs (arc_at arcs a)) (pos 0)) ≤ steep
       by true e =
           let x = fit a (ltb-true a (length arcs) (and_parts (ltb a (length arcs)) (s a) e).0) in
-          price-size us zs range asked.fair asked.few (arc_at arcs a) x.placed x.short
+          price_size us zs range asked.fair asked.few (arc_at arcs a) x.placed x.short
       by false e = omega arith
 
   module _ (price : ℕ → ℤ) (filled : (a : ℕ) → price a ≡ standing_price us zs arcs s a) where
@@ -61,17 +61,17 @@ module _ (n : ℕ) (arcs : List Arc) (us : List Rule) (zs : List ℤ) (s : Case)
         priced_by_sum (problem n arcs us) zs p ∙ ap (λ x. x +ℤ owed us zs) (sym (sum_is p 1 0 st.plan.path st.all))
 
     -- the plan with the least sum of prices is the one with the least amount
-    pub plan-is : cheapest (price_sum price) (standing n arcs s) ≡ cheapest (amount (problem n arcs us) zs) (standing n arcs s)
-    plan-is = cheapest-shift (price_sum price) (amount (problem n arcs us) zs) (owed us zs) (standing n arcs s) amount_is
+    pub plan_is : cheapest (price_sum price) (standing n arcs s) ≡ cheapest (amount (problem n arcs us) zs) (standing n arcs s)
+    plan_is = cheapest_shift (price_sum price) (amount (problem n arcs us) zs) (owed us zs) (standing n arcs s) amount_is
 
     -- the least amount is the least sum of prices and, once, the share
-    pub least-is : least_extend (amount_in (price_sum price) (cheapest (price_sum price) (standing n arcs s))) (owed us zs) ≡ amount_in (amount (problem n arcs us) zs) (cheapest (amount (problem n arcs us) zs) (standing n arcs s))
-    least-is = amount-shift (price_sum price) (amount (problem n arcs us) zs) (owed us zs) (standing n arcs s) amount_is
+    pub least_is : least_extend (amount_in (price_sum price) (cheapest (price_sum price) (standing n arcs s))) (owed us zs) ≡ amount_in (amount (problem n arcs us) zs) (cheapest (amount (problem n arcs us) zs) (standing n arcs s))
+    least_is = amount_shift (price_sum price) (amount (problem n arcs us) zs) (owed us zs) (standing n arcs s) amount_is
 
 -- the least sum of prices is not too large
 pub least_small : (n : ℕ) (arcs : List Arc) → Sealed n arcs → (s : Case) (price : ℕ → ℤ) → ((a : ℕ) → nat_abs (price a) ≤ steep) → least_size (amount_in (price_sum price) (cheapest (price_sum price) (standing n arcs s))) < wide
 least_small n arcs sealed s price small =
-    subst (λ (o : Option ℤ). least_size o < wide) (least-standing price n arcs s) (amount_narrow leasts least_lawful n arcs sealed s price small 1 0 (root_node n arcs sealed))
+    subst (λ (o : Option ℤ). least_size o < wide) (least_standing price n arcs s) (amount_narrow leasts least_lawful n arcs sealed s price small 1 0 (root_node n arcs sealed))
 
 -- the share as it is passed
 module _ (us : List Rule) (zs : List ℤ) (asked : Priceable us zs) (range : InRange us) (z : ℤ) (is : z ≡ owed us zs) where
@@ -99,14 +99,14 @@ module _ (n : ℕ) (arcs : List Arc) (sealed : Sealed n arcs) (us : List Rule) (
 
   module _ (x : Option ℤ) (is : x ≡ amount_in (price_sum (price_at prices)) (cheapest (price_sum (price_at prices)) (standing n arcs (marked on)))) where
     -- for a least sum that is not too large
-    pub sum-small : least_size x < 3 * wide
-    sum-small =
+    pub sum_small : least_size x < 3 * wide
+    sum_small =
         let h = subst (λ (o : Option ℤ). least_size o < wide) (sym is) (least_small n arcs sealed (marked on) (price_at prices) small) in
         omega arith
 
     -- and for the least amount
-    pub with-share : (z : ℤ) → z ≡ owed us zs → least_extend x (passed z) ≡ amount_in (amount (problem n arcs us) zs) (cheapest (amount (problem n arcs us) zs) (standing n arcs (marked on)))
-    with-share z e =
+    pub with_share : (z : ℤ) → z ≡ owed us zs → least_extend x (passed z) ≡ amount_in (amount (problem n arcs us) zs) (cheapest (amount (problem n arcs us) zs) (standing n arcs (marked on)))
+    with_share z e =
         ap (least_extend x) (share_passed us zs asked range z e)
         ∙ ap (λ (o : Option ℤ). least_extend o (owed us zs)) is
-        ∙ least-is n arcs us zs (marked on) (price_at prices) filled
+        ∙ least_is n arcs us zs (marked on) (price_at prices) filled

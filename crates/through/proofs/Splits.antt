@@ -21,9 +21,9 @@ on_split_lem a (j ∷ p) h =
     ]
 
 -- and one made so has it
-pub on-made : (a : ℕ) (f b : List ℕ) → on a (f ++ a ∷ b) ≡ true
-on-made a [] b = or_left (eqb a a) (on a b) (eq-eqb a a refl)
-on-made a (j ∷ f) b = or_right (eqb a j) (on a (f ++ a ∷ b)) (on-made a f b)
+pub on_made : (a : ℕ) (f b : List ℕ) → on a (f ++ a ∷ b) ≡ true
+on_made a [] b = or_left (eqb a a) (on a b) (eq-eqb a a refl)
+on_made a (j ∷ f) b = or_right (eqb a j) (on a (f ++ a ∷ b)) (on_made a f b)
 
 -- two parts stand exactly if they stand joined
 pub stands_join : (s : Case) (p q : List ℕ) → stands s (p ++ q) ≡ (stands s p && stands s q)

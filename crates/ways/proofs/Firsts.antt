@@ -20,7 +20,7 @@ use Rattle.ways.specs.Amounts.{along_back, joining, backward_amount}
 use Rattle.ways.specs.Sums.{price_sum, leasts, reaches}
 use Rattle.ways.specs.Traces.{Attains, Traced}
 use Rattle.tallies.specs.declared.tally.Tally.{Ghosts}
-use Rattle.tallies.specs.Sorts.{least_lawful, reach_lawful, least_chooses, reach_chooses, least-apart}
+use Rattle.tallies.specs.Sorts.{least_lawful, reach_lawful, least_chooses, reach_chooses, least_apart}
 use Rattle.ways.proofs.Sums.{Lawful, bound}
 use Rattle.ways.proofs.Picks.{Chooses, each_taken}
 use Rattle.ways.proofs.Levels.{root_node, end_node, amount_narrow, taken, traced_reaches}
@@ -56,8 +56,8 @@ module _ {X A : Type 0} (t : Ghosts X A) (laws : Lawful t) (n : ℕ) (arcs : Lis
 
   module _ (chooses : Chooses t) where
     -- the amount takes in that of each
-    pub is-taken : (k v : ℕ) (q : List ℕ) → Node n k v → Onward n arcs s k v q → t.joins (along_back t price q) (amount k v) ≡ amount k v
-    is-taken k v q node w =
+    pub is_taken : (k v : ℕ) (q : List ℕ) → Node n k v → Onward n arcs s k v q → t.joins (along_back t price q) (amount k v) ≡ amount k v
+    is_taken k v q node w =
         all_at (λ a. t.joins a (amount k v) ≡ amount k v) (along_back t price) q (those (stands s) (backs n arcs k v)) (each_taken t laws chooses (map (along_back t price) (those (stands s) (backs n arcs k v)))) (is_listed k v q node w)
 
     -- an arc on a plan that attains the amount attains it
@@ -75,15 +75,15 @@ module _ {X A : Type 0} (t : Ghosts X A) (laws : Lawful t) (n : ℕ) (arcs : Lis
         let b = amount (suc k) e in
         let x = price j in
         let narrow : t.size a < wide = omega (arith, along_small q few) in
-        (test, sym (ap (λ y. t.extends y x) (is-taken (suc k) e q next-node rest)) ∙ laws.distributes a b x narrow (amount_narrow t laws n arcs sealed s price small (suc k) e next-node) (omega (arith, small j)) ∙ ap (λ y. t.joins y (t.extends b x)) is ∙ laws.comm (amount k v) (t.extends b x) ∙ taken t laws n arcs sealed s price small chooses k v node high j test)
+        (test, sym (ap (λ y. t.extends y x) (is_taken (suc k) e q next-node rest)) ∙ laws.distributes a b x narrow (amount_narrow t laws n arcs sealed s price small (suc k) e next-node) (omega (arith, small j)) ∙ ap (λ y. t.joins y (t.extends b x)) is ∙ laws.comm (amount k v) (t.extends b x) ∙ taken t laws n arcs sealed s price small chooses k v node high j test)
 
     -- where extension tells amounts apart, no plan that attains the amount comes before the one that is traced
-    pub traced-first : ((x y : A) (p : ℤ) → t.extends x p ≡ t.extends y p → x ≡ y) → (p : List ℕ) (k v : ℕ) (q : List ℕ) → Node n k v → Traced t n arcs s price k v p → Onward n arcs s k v q → along_back t price q ≡ amount k v → (p ≡ q) ⊎ Before p q
-    traced-first apart [] k v [] node e w is = inl refl
-    traced-first apart [] k v (j ∷ q) node e w is = absurd (omega (arith, w.long, e))
-    traced-first apart (i ∷ p) k v [] node h w is =
+    pub traced_first : ((x y : A) (p : ℤ) → t.extends x p ≡ t.extends y p → x ≡ y) → (p : List ℕ) (k v : ℕ) (q : List ℕ) → Node n k v → Traced t n arcs s price k v p → Onward n arcs s k v q → along_back t price q ≡ amount k v → (p ≡ q) ⊎ Before p q
+    traced_first apart [] k v [] node e w is = inl refl
+    traced_first apart [] k v (j ∷ q) node e w is = absurd (omega (arith, w.long, e))
+    traced_first apart (i ∷ p) k v [] node h w is =
         absurd (omega (arith, w.long, (traced_reaches t laws n arcs sealed s price small (i ∷ p) k v node h).long))
-    traced-first apart (i ∷ p) k v (j ∷ q) node (pick, rest) w is =
+    traced_first apart (i ∷ p) k v (j ∷ q) node (pick, rest) w is =
         ⊎_elim
         (λ (same : i ≡ j).
         let goes = w.path.0 in
@@ -91,7 +91,7 @@ module _ {X A : Type 0} (t : Ghosts X A) (laws : Lawful t) (n : ℕ) (arcs : Lis
         let next-node = end_node n arcs sealed k v j node.low goes in
         let follows : Traced t n arcs s price (suc k) (arc_at arcs j).end p = subst (λ a. Traced t n arcs s price (suc k) (arc_at arcs a).end p) same rest in
         let left = (forced k v j q node w is).1 in
-        ⊎_elim (λ (e : p ≡ q). inl (ap (λ a. a ∷ p) same ∙ ap (λ xs. j ∷ xs) e)) (λ b. inr (inr (same, b))) (traced-first apart p (suc k) (arc_at arcs j).end q next-node follows (record { long = omega (arith, w.long); path = w.path.1; all = both.1 }) (apart (along_back t price q) (amount (suc k) (arc_at arcs j).end) (price j) (is ∙ sym left))))
+        ⊎_elim (λ (e : p ≡ q). inl (ap (λ a. a ∷ p) same ∙ ap (λ xs. j ∷ xs) e)) (λ b. inr (inr (same, b))) (traced_first apart p (suc k) (arc_at arcs j).end q next-node follows (record { long = omega (arith, w.long); path = w.path.1; all = both.1 }) (apart (along_back t price q) (amount (suc k) (arc_at arcs j).end) (price j) (is ∙ sym left))))
         (⊎_elim (λ (less : i < j). inr (inl less)) (λ (more : j < i). absurd (pick.1 j more (forced k v j q node w is))))
         (cases_order i j)
 
@@ -125,8 +125,8 @@ module _ (price : ℕ → ℤ) where
   joined_least [] = refl
   joined_least (p ∷ ps) = rw (least_along price p, joined_least ps) (joined_one p (cheapest g ps))
 
-  pub least-standing : (n : ℕ) (arcs : List Arc) (s : Case) → backward_amount leasts n arcs s price 1 0 ≡ amount_in g (cheapest g (standing n arcs s))
-  least-standing n arcs s = ap (λ ps. joining leasts (map (along_back leasts price) ps)) (whole_list n arcs s) ∙ joined_least (standing n arcs s)
+  pub least_standing : (n : ℕ) (arcs : List Arc) (s : Case) → backward_amount leasts n arcs s price 1 0 ≡ amount_in g (cheapest g (standing n arcs s))
+  least_standing n arcs s = ap (λ ps. joining leasts (map (along_back leasts price) ps)) (whole_list n arcs s) ∙ joined_least (standing n arcs s)
 
   below_join : (x y : ℤ) → least_join (Some x) (Some y) ≡ Some y → y ≤ℤ x
   below_join x y e = by (lt_z y x) refl e
@@ -144,13 +144,13 @@ module _ (price : ℕ → ℤ) where
       ((standing_means n arcs s g).priced p).1 (record {
         stands = record { plan = record { long = omega (arith, r.long); path = r.path }; all = r.all };
         least = λ q w.
-            let took = is-taken leasts least_lawful n arcs sealed s price small least_chooses 1 0 q node (plan_onward n arcs s q w) in
+            let took = is_taken leasts least_lawful n arcs sealed s price small least_chooses 1 0 q node (plan_onward n arcs s q w) in
             below_join (g q) (g p) (ap (λ (o : Option ℤ). least_join (Some (g q)) o) at ∙ ap (λ (o : Option ℤ). least_join o (backward_amount leasts n arcs s price 1 0)) (sym (least_along price q)) ∙ took ∙ sym at);
         first = λ q w l.
-            let took = is-taken leasts least_lawful n arcs sealed s price small least_chooses 1 0 q node (plan_onward n arcs s q w) in
+            let took = is_taken leasts least_lawful n arcs sealed s price small least_chooses 1 0 q node (plan_onward n arcs s q w) in
             let m = below_join (g q) (g p) (ap (λ (o : Option ℤ). least_join (Some (g q)) o) at ∙ ap (λ (o : Option ℤ). least_join o (backward_amount leasts n arcs s price 1 0)) (sym (least_along price q)) ∙ took ∙ sym at) in
             let same : g q ≡ g p = omega (arith, ints) in
-            traced-first leasts least_lawful n arcs sealed s price small least_chooses least-apart p 1 0 q node h (plan_onward n arcs s q w) (least_along price q ∙ ap Some same ∙ at);
+            traced_first leasts least_lawful n arcs sealed s price small least_chooses least_apart p 1 0 q node h (plan_onward n arcs s q w) (least_along price q ∙ ap Some same ∙ at);
       })
 
 -- reach: every plan's amount is yes
@@ -172,5 +172,5 @@ module _ (price : ℕ → ℤ) where
       let r = traced_reaches reaches reach_lawful n arcs sealed s price small p 1 0 (root_node n arcs sealed) h in
       ((standing_means n arcs s (λ q. pos 0)).sampled p).1 (record {
         stands = record { plan = record { long = omega (arith, r.long); path = r.path }; all = r.all };
-        first = λ q w. traced-first reaches reach_lawful n arcs sealed s price small reach_chooses (λ x y z e. e) p 1 0 q (root_node n arcs sealed) h (plan_onward n arcs s q w) (reach_along q ∙ sym (reach_along p) ∙ r.amount);
+        first = λ q w. traced_first reaches reach_lawful n arcs sealed s price small reach_chooses (λ x y z e. e) p 1 0 q (root_node n arcs sealed) h (plan_onward n arcs s q w) (reach_along q ∙ sym (reach_along p) ∙ r.amount);
       })

@@ -13,9 +13,9 @@ use Rattle.ways.specs.Ways.{takes, way_amount}
 use Rattle.ways.specs.Directions.{backward}
 use Rattle.ways.specs.Traces.{Attains, Smallest, Traced, Completes, Attaining}
 use Rattle.tallies.specs.declared.tally.Tally.{Ghosts}
-use Rattle.ways.proofs.Sums.{Lawful, through, way-narrow, neutral_right}
-use Rattle.ways.proofs.Turns.{backward-way}
-use Rattle.ways.proofs.Picks.{Chooses, absorbed, some-part}
+use Rattle.ways.proofs.Sums.{Lawful, through, way_narrow, neutral_right}
+use Rattle.ways.proofs.Turns.{backward_way}
+use Rattle.ways.proofs.Picks.{Chooses, absorbed, some_part}
 
 -- the root is a node, and the node at which an arc from a node ends is one
 pub root_node : (n : ℕ) (arcs : List Arc) → Sealed n arcs → Node n 1 0
@@ -47,7 +47,7 @@ module _ {X A : Type 0} (t : Ghosts X A) (laws : Lawful t) (n : ℕ) (arcs : Lis
   amount_narrow k v node =
       let low = node.low in
       let few = sealed.few in
-      subst (λ a. t.size a < wide) (sym (backward-way t price n arcs s sealed k v node)) (way-narrow t laws backward n arcs s price small (suc n - k) v (omega arith))
+      subst (λ a. t.size a < wide) (sym (backward_way t price n arcs s sealed k v node)) (way_narrow t laws backward n arcs s price small (suc n - k) v (omega arith))
 
   -- what stands in a filled table at the entry of a node
   pub read_table : (table : List A) (k v q : ℕ) (x : A) → Backward t n arcs s price table → length table ≡ 1056 → Node n k v → q ≡ entry k v → x ≡ get_or table q x → x ≡ amount k v
@@ -73,12 +73,12 @@ module _ {X A : Type 0} (t : Ghosts X A) (laws : Lawful t) (n : ℕ) (arcs : Lis
   after_same : (k v i : ℕ) → 1 ≤ k → next arcs k v i ≡ true → after k i ≡ through t backward n arcs s price (n - k) i
   after_same k v i low e =
       let down : suc n - suc k ≡ n - k = omega arith in
-      ap (λ a. t.extends a (price i)) (backward-way t price n arcs s sealed (suc k) (arc_at arcs i).end (end_node n arcs sealed k v i low e) ∙ ap (λ m. way_amount t backward n arcs s price m (arc_at arcs i).end) down)
+      ap (λ a. t.extends a (price i)) (backward_way t price n arcs s sealed (suc k) (arc_at arcs i).end (end_node n arcs sealed k v i low e) ∙ ap (λ m. way_amount t backward n arcs s price m (arc_at arcs i).end) down)
 
   amount_same : (k v : ℕ) → Node n k v → k ≤ n → amount k v ≡ way_amount t backward n arcs s price (suc (n - k)) v
   amount_same k v node high =
       let up : suc n - k ≡ suc (n - k) = omega arith in
-      backward-way t price n arcs s sealed k v node ∙ ap (λ m. way_amount t backward n arcs s price m v) up
+      backward_way t price n arcs s sealed k v node ∙ ap (λ m. way_amount t backward n arcs s price m v) up
 
   module _ (chooses : Chooses t) (k v : ℕ) (node : Node n k v) (high : k ≤ n) where
     narrow : n - k < 32
@@ -95,11 +95,11 @@ module _ {X A : Type 0} (t : Ghosts X A) (laws : Lawful t) (n : ℕ) (arcs : Lis
         ap (λ x. t.joins x (amount k v)) b ∙ ap (t.joins (through t backward n arcs s price (n - k) i)) c ∙ a ∙ sym c
 
     -- what a choice between an arc's amount and the node's tells
-    pub attains-yes : (i : ℕ) → (s i && next arcs k v i) ≡ true → t.joins (after k i) (amount k v) ≡ after k i → after k i ≡ amount k v
-    attains-yes i e p = sym p ∙ taken i e
+    pub attains_yes : (i : ℕ) → (s i && next arcs k v i) ≡ true → t.joins (after k i) (amount k v) ≡ after k i → after k i ≡ amount k v
+    attains_yes i e p = sym p ∙ taken i e
 
-    pub attains-no : (i : ℕ) → (s i && next arcs k v i) ≡ true → after k i ≡ amount k v → t.joins (after k i) (amount k v) ≡ after k i
-    attains-no i e p = taken i e ∙ sym p
+    pub attains_no : (i : ℕ) → (s i && next arcs k v i) ≡ true → after k i ≡ amount k v → t.joins (after k i) (amount k v) ≡ after k i
+    attains_no i e p = taken i e ∙ sym p
 
     -- an amount that is not "no plan" is attained
     pub attained : (amount k v ≡ t.nothing → ⊥) → (i : ℕ) × ((i < length arcs) × Attains t n arcs s price k v i)
@@ -109,7 +109,7 @@ module _ {X A : Type 0} (t : Ghosts X A) (laws : Lawful t) (n : ℕ) (arcs : Lis
         let l = r.1.0 in
         let e = test_same k v i high l ∙ r.1.1.0 in
         let goes = (and_parts (s i) (next arcs k v i) e).1 in
-        (i, (l, (e, after_same k v i node.low goes ∙ r.1.1.1 ∙ sym (amount_same k v node high))))) (some-part t laws chooses backward n arcs s price small (n - k) v narrow (length arcs))
+        (i, (l, (e, after_same k v i node.low goes ∙ r.1.1.1 ∙ sym (amount_same k v node high))))) (some_part t laws chooses backward n arcs s price small (n - k) v narrow (length arcs))
 
   -- an arc that attains an amount ends where an amount is
   pub amount_left : (k v i : ℕ) → Attains t n arcs s price k v i → (amount k v ≡ t.nothing → ⊥) → amount (suc k) (arc_at arcs i).end ≡ t.nothing → ⊥
@@ -135,7 +135,7 @@ module _ {X A : Type 0} (t : Ghosts X A) (laws : Lawful t) (n : ℕ) (arcs : Lis
     long = omega (arith, e);
     path = tt;
     all = refl;
-    amount = sym (backward-way t price n arcs s sealed k v node ∙ last (suc n - k) v (omega (arith, e)) (node.end e));
+    amount = sym (backward_way t price n arcs s sealed k v node ∙ last (suc n - k) v (omega (arith, e)) (node.end e));
   }
     where
       last : (j v : ℕ) → j ≡ 0 → v ≡ 0 → way_amount t backward n arcs s price j v ≡ t.start

@@ -33,31 +33,31 @@ module _ (f g : List ℕ → ℤ) where
       by true z = inr (ap Some z)
       by false z = inl z
 
-  cheapest-on : (q : List ℕ) (ps : List (List ℕ)) → cheapest g ps ≡ Some q → In q ps
-  cheapest-on q [] e = let z : ◌≡◌ {A = ℕ} 0 1 = cc in absurd (omega arith)
-  cheapest-on q (p ∷ ps) e =
+  cheapest_on : (q : List ℕ) (ps : List (List ℕ)) → cheapest g ps ≡ Some q → In q ps
+  cheapest_on q [] e = let z : ◌≡◌ {A = ℕ} 0 1 = cc in absurd (omega arith)
+  cheapest_on q (p ∷ ps) e =
       let s : lesser g p (cheapest g ps) ≡ q = cc in
-      elim (from_lesser p (cheapest g ps) q s) [ inl h ↦ inl (sym h) | inr h ↦ inr (cheapest-on q ps h) ]
+      elim (from_lesser p (cheapest g ps) q s) [ inl h ↦ inl (sym h) | inr h ↦ inr (cheapest_on q ps h) ]
 
   pub cheapest_same : (ps : List (List ℕ)) → ((p : List ℕ) → In p ps → f p ≡ g p) → cheapest f ps ≡ cheapest g ps
   cheapest_same [] h = refl
   cheapest_same (p ∷ ps) h =
       let e = cheapest_same ps (λ q m. h q (inr m)) in
-      ap Some (ap (lesser f p) e ∙ lesser_same f g p (cheapest g ps) (h p (inl refl)) (λ q m. h q (inr (cheapest-on q ps m))))
+      ap Some (ap (lesser f p) e ∙ lesser_same f g p (cheapest g ps) (h p (inl refl)) (λ q m. h q (inr (cheapest_on q ps m))))
 
 module _ (n : ℕ) (arcs : List Arc) (s : Case) (price : ℕ → ℤ) (marks : (a : ℕ) → a < length arcs → s a ≡ true) (minutes : (a : ℕ) → a < length arcs → price a ≡ pos (arc_at arcs a).minutes) where
   all_stand : (p : List ℕ) (k v : ℕ) → Path arcs k v p → stands s p ≡ true
   all_stand [] k v h = refl
   all_stand (a ∷ p) k v h = rw (marks a (next_there arcs k v a h.0)) (all_stand p (suc k) (arc_at arcs a).end h.1)
 
-  sum-cost : (p : List ℕ) (k v : ℕ) → Path arcs k v p → price_sum price p ≡ pos (cost arcs p)
-  sum-cost [] k v h = refl
-  sum-cost (a ∷ p) k v h = rw (minutes a (next_there arcs k v a h.0), sum-cost p (suc k) (arc_at arcs a).end h.1)
+  sum_cost : (p : List ℕ) (k v : ℕ) → Path arcs k v p → price_sum price p ≡ pos (cost arcs p)
+  sum_cost [] k v h = refl
+  sum_cost (a ∷ p) k v h = rw (minutes a (next_there arcs k v a h.0), sum_cost p (suc k) (arc_at arcs a).end h.1)
 
   pub cheapest_minutes : cheapest (price_sum price) (standing n arcs s) ≡ cheapest_plan n arcs
   cheapest_minutes =
       ap (cheapest (price_sum price)) (those_all (stands s) (plans n arcs) (λ p m. all_stand p 1 0 (in_plan n arcs p m).path))
-      ∙ cheapest_same (price_sum price) (λ p. pos (cost arcs p)) (plans n arcs) (λ p m. sum-cost p 1 0 (in_plan n arcs p m).path)
+      ∙ cheapest_same (price_sum price) (λ p. pos (cost arcs p)) (plans n arcs) (λ p m. sum_cost p 1 0 (in_plan n arcs p m).path)
 
   amount_is : (o : Option (List ℕ)) → ((p : List ℕ) → o ≡ Some p → price_sum price p ≡ pos (cost arcs p)) → (z : Option ℤ) → z ≡ amount_in (price_sum price) o → z ≡ amount_in (λ p. pos (cost arcs p)) o
   amount_is None h z e = e
@@ -65,14 +65,14 @@ module _ (n : ℕ) (arcs : List Arc) (s : Case) (price : ℕ → ℤ) (marks : (
 
   pub amount_minutes : (z : Option ℤ) → z ≡ amount_in (price_sum price) (cheapest (price_sum price) (standing n arcs s)) → z ≡ amount_in (λ p. pos (cost arcs p)) (cheapest_plan n arcs)
   amount_minutes z e =
-      amount_is (cheapest_plan n arcs) (λ p h. sum-cost p 1 0 (in_plan n arcs p (cheapest-on (λ q. pos (cost arcs q)) (λ q. pos (cost arcs q)) p (plans n arcs) h)).path) z (e ∙ ap (amount_in (price_sum price)) cheapest_minutes)
+      amount_is (cheapest_plan n arcs) (λ p h. sum_cost p 1 0 (in_plan n arcs p (cheapest_on (λ q. pos (cost arcs q)) (λ q. pos (cost arcs q)) p (plans n arcs) h)).path) z (e ∙ ap (amount_in (price_sum price)) cheapest_minutes)
 
 -- what an answer tells of the cost
 module _ (arcs : List Arc) where
-  pub none-cost : (o : Option (List ℕ)) → None ≡ amount_in (λ p. pos (cost arcs p)) o → None ≡ cost_in arcs o
-  none-cost None e = refl
-  none-cost (Some p) e = let z : ◌≡◌ {A = ℕ} 0 1 = cc in absurd (omega arith)
+  pub none_cost : (o : Option (List ℕ)) → None ≡ amount_in (λ p. pos (cost arcs p)) o → None ≡ cost_in arcs o
+  none_cost None e = refl
+  none_cost (Some p) e = let z : ◌≡◌ {A = ℕ} 0 1 = cc in absurd (omega arith)
 
-  pub some-cost : (o : Option (List ℕ)) (x : ℤ) → Some x ≡ amount_in (λ p. pos (cost arcs p)) o → (c : ℕ) × ((x ≡ pos c) × (Some c ≡ cost_in arcs o))
-  some-cost None x e = let z : ◌≡◌ {A = ℕ} 0 1 = cc in absurd (omega arith)
-  some-cost (Some p) x e = let s : x ≡ pos (cost arcs p) = cc in (cost arcs p, (s, refl))
+  pub some_cost : (o : Option (List ℕ)) (x : ℤ) → Some x ≡ amount_in (λ p. pos (cost arcs p)) o → (c : ℕ) × ((x ≡ pos c) × (Some c ≡ cost_in arcs o))
+  some_cost None x e = let z : ◌≡◌ {A = ℕ} 0 1 = cc in absurd (omega arith)
+  some_cost (Some p) x e = let s : x ≡ pos (cost arcs p) = cc in (cost arcs p, (s, refl))

@@ -77,7 +77,7 @@ module _ {X A : Type 0} (t : Ghosts X A) (laws : Lawful t) (chooses : Chooses t)
         ⊎_elim (λ (q : t.joins (whole m) (part m) ≡ whole m). ⊎_elim (λ z. inl (q ∙ z)) (λ p. inr (wider m _ _ (sym q) p)) old) (λ (q : t.joins (whole m) (part m) ≡ part m). inr (m, (omega arith, (e, sym q)))) (chooses (whole m) (part m))
 
     -- a joining that is not "no plan" is one of its parts
-    pub some-part : (m : ℕ) → (whole m ≡ t.nothing) ⊎ Part m (whole m)
-    some-part zero = inl refl
-    some-part (suc m) =
-        subst (λ a. (a ≡ t.nothing) ⊎ Part (suc m) a) (sym (one_more t laws h n arcs s price small k v m few)) (part_step m (brings m) refl (some-part m))
+    pub some_part : (m : ℕ) → (whole m ≡ t.nothing) ⊎ Part m (whole m)
+    some_part zero = inl refl
+    some_part (suc m) =
+        subst (λ a. (a ≡ t.nothing) ⊎ Part (suc m) a) (sym (one_more t laws h n arcs s price small k v m few)) (part_step m (brings m) refl (some_part m))

@@ -12,7 +12,7 @@ use Rattle.ways.specs.Amounts.{along_back, joining}
 use Rattle.ways.specs.Ways.{takes, way_amount, relaxed, spot, Filled}
 use Rattle.tallies.specs.declared.tally.Tally.{Ghosts}
 use Rattle.tallies.specs.declared.heading.Heading.{Ghosts as Directed}
-use Rattle.ways.proofs.Sums.{Lawful, so_far, one-taken, one_left, neutral_right, way-narrow}
+use Rattle.ways.proofs.Sums.{Lawful, so_far, one_taken, one_left, neutral_right, way_narrow}
 
 -- a price that a call is passed
 pub price_fits : (z : ℤ) → nat_abs z ≤ steep → SFits w64 z
@@ -64,15 +64,15 @@ module _ {X A Y : Type 0} (t : Ghosts X A) (laws : Lawful t) (h : Directed Y) (s
       rest l v a b d = other l v b d (λ e. omega (arith, e.0))
 
   module _ (small : (a : ℕ) → nat_abs (price a) ≤ steep) where
-    pub arriving-start : (k : ℕ) (out : List A) → k < n → Filled t h n arcs s price k out → Arriving t h n arcs s price k 0 out
-    arriving-start k out l f = record {
+    pub arriving_start : (k : ℕ) (out : List A) → k < n → Filled t h n arcs s price k out → Arriving t h n arcs s price k 0 out
+    arriving_start k out l f = record {
       done = f.done;
       here = λ v b. f.rest (k + 1) v (omega arith) (omega arith) b;
       rest = λ l v a b d. f.rest l v (omega arith) b d;
     }
 
-    pub arriving-all : (k i : ℕ) (out : List A) → k < n → i ≡ length arcs → Arriving t h n arcs s price k i out → Filled t h n arcs s price (k + 1) out
-    arriving-all k i out l all r = record { done = done; rest = λ l v a b d. r.rest l v a b d }
+    pub arriving_all : (k i : ℕ) (out : List A) → k < n → i ≡ length arcs → Arriving t h n arcs s price k i out → Filled t h n arcs s price (k + 1) out
+    arriving_all k i out l all r = record { done = done; rest = λ l v a b d. r.rest l v a b d }
       where
         done : (l v : ℕ) → l ≤ k + 1 → l ≤ n → v < 32 → get_or out (spot h n l v) t.nothing ≡ way_amount t h n arcs s price l v
         done l v a b d =
@@ -83,13 +83,13 @@ module _ {X A Y : Type 0} (t : Ghosts X A) (laws : Lawful t) (h : Directed Y) (s
       narrow = omega arith
 
       -- what an arc extends is not too large
-      pub before-narrow : (out : List A) (v : ℕ) → v < 32 → Arriving t h n arcs s price k i out → t.size (get_or out (spot h n k v) t.nothing) < wide
-      before-narrow out v b r =
-          subst (λ a. t.size a < wide) (sym (r.done k v (omega arith) (omega arith) b)) (way-narrow t laws h n arcs s price small k v (omega arith))
+      pub before_narrow : (out : List A) (v : ℕ) → v < 32 → Arriving t h n arcs s price k i out → t.size (get_or out (spot h n k v) t.nothing) < wide
+      before_narrow out v b r =
+          subst (λ a. t.size a < wide) (sym (r.done k v (omega arith) (omega arith) b)) (way_narrow t laws h n arcs s price small k v (omega arith))
 
       -- an arc that the step does not take
-      pub arriving-no : (out : List A) → takes h n arcs s k i ≡ false → Arriving t h n arcs s price k i out → Arriving t h n arcs s price k (i + 1) out
-      arriving-no out e r = record {
+      pub arriving_no : (out : List A) → takes h n arcs s k i ≡ false → Arriving t h n arcs s price k i out → Arriving t h n arcs s price k (i + 1) out
+      arriving_no out e r = record {
         done = r.done;
         here = λ v b. r.here v b ∙ sym (left v);
         rest = r.rest;
@@ -107,8 +107,8 @@ module _ {X A Y : Type 0} (t : Ghosts X A) (laws : Lawful t) (h : Directed Y) (s
       put out =
           t.joins (get_or out (spot h n (k + 1) (h.far (arc_at arcs i))) t.nothing) (t.extends (get_or out (spot h n k (h.near (arc_at arcs i))) t.nothing) (price i))
 
-      pub arriving-yes : (out next : List A) → length out ≡ 1056 → takes h n arcs s k i ≡ true → OnNodes (arc_at arcs i) → Arriving t h n arcs s price k i out → next ≡ stepped out → Arriving t h n arcs s price k (i + 1) next
-      arriving-yes out next long took nodes r is = rw is record { done = done; here = here; rest = rest }
+      pub arriving_yes : (out next : List A) → length out ≡ 1056 → takes h n arcs s k i ≡ true → OnNodes (arc_at arcs i) → Arriving t h n arcs s price k i out → next ≡ stepped out → Arriving t h n arcs s price k (i + 1) next
+      arriving_yes out next long took nodes r is = rw is record { done = done; here = here; rest = rest }
         where
           from : h.near (arc_at arcs i) < 32
           from = st.near_node (arc_at arcs i) nodes
@@ -132,7 +132,7 @@ module _ {X A Y : Type 0} (t : Ghosts X A) (laws : Lawful t) (h : Directed Y) (s
               let there = ap (λ x. get_or out (spot h n (k + 1) x) t.nothing) b ∙ r.here v w in
               let before = r.done k (h.near (arc_at arcs i)) (omega arith) (omega arith) from in
               let wrote = get_or-set_same out (spot h n (k + 1) (h.far (arc_at arcs i))) (put out) t.nothing lt in
-              let more = one-taken t laws h n arcs s price small k v i narrow took b in
+              let more = one_taken t laws h n arcs s price small k v i narrow took b in
               let up = ap (so_far t h n arcs s price k v) (add-one i) in
               cc
 

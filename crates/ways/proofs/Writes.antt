@@ -9,7 +9,7 @@ use Rattle.plans.specs.Firsts.{foremost, cheapest, amount_in, written, is_there}
 use Rattle.tallies.specs.Laws.{steep}
 use Rattle.ways.specs.Sums.{price_sum, leasts, reaches}
 use Rattle.ways.specs.Traces.{Outcome}
-use Rattle.ways.proofs.Firsts.{least-standing, least_traced, reach_standing, reach_traced}
+use Rattle.ways.proofs.Firsts.{least_standing, least_traced, reach_standing, reach_traced}
 
 -- a plan of n arcs in the first places, and the rest as it was
 wrote : (n : ℕ) (old new : List ℕ) → length (take n new) ≡ n → drop n new ≡ drop n old → new ≡ written (Some (take n new)) old
@@ -25,10 +25,10 @@ not_there None e = refl
 not_there (Some p) e = absurd (true≢false e)
 
 module _ (n : ℕ) (arcs : List Arc) (sealed : Sealed n arcs) (s : Case) (price : ℕ → ℤ) (small : (a : ℕ) → nat_abs (price a) ≤ steep) (old new : List ℕ) where
-  pub least-wrote : (r : Bool) → Outcome leasts n arcs s price old new r → new ≡ written (cheapest (price_sum price) (standing n arcs s)) old
-  least-wrote false (none, same) =
-      same ∙ ap (λ (o : Option (List ℕ)). written o old) (sym (no_plan_lem (price_sum price) (cheapest (price_sum price) (standing n arcs s)) (sym (least-standing price n arcs s) ∙ none)))
-  least-wrote true (some, traced, plan, rest) =
+  pub least_wrote : (r : Bool) → Outcome leasts n arcs s price old new r → new ≡ written (cheapest (price_sum price) (standing n arcs s)) old
+  least_wrote false (none, same) =
+      same ∙ ap (λ (o : Option (List ℕ)). written o old) (sym (no_plan_lem (price_sum price) (cheapest (price_sum price) (standing n arcs s)) (sym (least_standing price n arcs s) ∙ none)))
+  least_wrote true (some, traced, plan, rest) =
       wrote n old new plan.stands.plan.long rest ∙ ap (λ (o : Option (List ℕ)). written o old) (sym (least_traced price n arcs sealed s small (take n new) traced))
 
   pub reach_wrote : (r : Bool) → Outcome reaches n arcs s price old new r → new ≡ written (foremost (standing n arcs s)) old

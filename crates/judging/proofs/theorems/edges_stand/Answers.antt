@@ -1,13 +1,13 @@
 use Rattle.std.proofs.Common.{refl, arith}
 use Rattle.std.proofs.lemmas.Bool.{false≢true}
 use Rattle.terms.specs.Routes as routes
-use Rattle.judging.proofs.Worked.{example-posed}
+use Rattle.judging.proofs.Worked.{example_posed}
 use Rattle.judging.proofs.theorems.edges_stand.Goals as goal
 
 pub returns : goal.returns
 unfolding routes.members
 returns c = record {
-  posed = example-posed;
+  posed = example_posed;
   all = refl;
   price = refl;
   plan = refl;

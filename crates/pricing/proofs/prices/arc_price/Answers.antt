@@ -1,7 +1,7 @@
 use Rattle.std.proofs.Common.{◌≡◌, ℕ, ◌*◌, ◌≤◌, get_or, ℤ, pos, ◌+ℤ◌, nat_abs, sym, ap, ◌∙◌, arith}
 use lib.IntN.{+ℤ_assoc}
 use Rattle.amounts.specs.Sums.{sum_to, worth_of}
-use Rattle.amounts.proofs.Lowest.{fair-length}
+use Rattle.amounts.proofs.Lowest.{fair_length}
 use Rattle.amounts.proofs.Sums.{sum_more}
 use Rattle.amounts.proofs.Sizes.{add_size}
 use Rattle.amounts.proofs.Passed.{sum_fits, sum_is}
@@ -12,7 +12,7 @@ use Rattle.pricing.proofs.prices.arc_price.Goals as goal
 pub bounds-active-j : goal.bounds-active-j
 bounds-active-j g c =
     let few = c.requires.active.few in
-    let many = fair-length (g.B.Bank.rules c.args.bank.now) c.args.multipliers.now c.requires.asked.fair in
+    let many = fair_length (g.B.Bank.rules c.args.bank.now) c.args.multipliers.now c.requires.asked.fair in
     let most = c.requires.asked.few in
     omega (arith, c.loop-j-test.true)
 

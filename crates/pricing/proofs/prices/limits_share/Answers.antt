@@ -1,6 +1,6 @@
 use Rattle.std.proofs.Common.{◌≡◌, ℕ, ◌≤◌, get_or, ℤ, ◌+ℤ◌, nat_abs, sym, ap, ◌∙◌, arith}
 use Rattle.amounts.specs.Sums.{sum_to, owed_of}
-use Rattle.amounts.proofs.Lowest.{fair-length}
+use Rattle.amounts.proofs.Lowest.{fair_length}
 use Rattle.amounts.proofs.Sums.{sum_more}
 use Rattle.amounts.proofs.Sizes.{add_size}
 use Rattle.amounts.proofs.Passed.{sum_fits, sum_is}
@@ -10,12 +10,12 @@ use Rattle.pricing.proofs.prices.limits_share.Goals as goal
 
 pub active_rules-active-requires : goal.active_rules-active-requires
 active_rules-active-requires g c =
-    omega (arith, c.requires.few, fair-length (g.B.Bank.rules c.args.bank.now) c.args.multipliers.now c.requires.fair)
+    omega (arith, c.requires.few, fair_length (g.B.Bank.rules c.args.bank.now) c.args.multipliers.now c.requires.fair)
 
 pub bounds-active-j : goal.bounds-active-j
 bounds-active-j g c =
     let few = c.active_rules-active.ensures.few in
-    let many = fair-length (g.B.Bank.rules c.args.bank.now) c.args.multipliers.now c.requires.fair in
+    let many = fair_length (g.B.Bank.rules c.args.bank.now) c.args.multipliers.now c.requires.fair in
     let most = c.requires.few in
     omega (arith, c.loop-j-test.true)
 

@@ -1,4 +1,4 @@
-use Rattle.through.proofs.Asked.{rule_there, worth-fits, worth-is}
+use Rattle.through.proofs.Asked.{rule_there, worth_fits, worth_is}
 use Rattle.pricing.proofs.prices.weight_part.Goals as goal
 
 pub weight_at-weight-requires : goal.weight_at-weight-requires
@@ -10,8 +10,8 @@ weight_at-weight-requires g c = record {
 
 pub overflow_mul-result : goal.overflow_mul-result
 overflow_mul-result g c =
-    worth-fits (g.B.Bank.rules c.args.bank.now) c.args.multipliers.now c.requires.asked (g.B.Bank.within c.args.bank.now) c.args.rule c.requires.there c.args.arc.place c.args.arc.route c.requires.fit c.weight_at-weight.result c.weight_at-weight.ensures
+    worth_fits (g.B.Bank.rules c.args.bank.now) c.args.multipliers.now c.requires.asked (g.B.Bank.within c.args.bank.now) c.args.rule c.requires.there c.args.arc.place c.args.arc.route c.requires.fit c.weight_at-weight.result c.weight_at-weight.ensures
 
 pub returns : goal.returns
 returns g c =
-    worth-is (g.B.Bank.rules c.args.bank.now) c.args.multipliers.now c.requires.asked (g.B.Bank.within c.args.bank.now) c.args.rule c.requires.there c.args.arc.place c.args.arc.route c.requires.fit c.weight_at-weight.result c.weight_at-weight.ensures
+    worth_is (g.B.Bank.rules c.args.bank.now) c.args.multipliers.now c.requires.asked (g.B.Bank.within c.args.bank.now) c.args.rule c.requires.there c.args.arc.place c.args.arc.route c.requires.fit c.weight_at-weight.result c.weight_at-weight.ensures

@@ -8,7 +8,7 @@ use Rattle.through.specs.Pricings.{problem}
 use Rattle.through.specs.Keeping.{kept_below}
 use Rattle.through.proofs.Bools.{size_same}
 use Rattle.through.proofs.Pricing.{share_narrow, share_passed, sweepable, amount_is}
-use Rattle.through.proofs.Keeping.{below-kept, below-gone}
+use Rattle.through.proofs.Keeping.{below_kept, below_gone}
 use Rattle.pricing.proofs.strike.strike.Goals as goal
 
 pub arcs_below-keep-requires : goal.arcs_below-keep-requires
@@ -40,7 +40,7 @@ returns g c =
     ∙ ap (λ (z : ℤ). kept_below n arcs s price z (to_z w64 (of_z w64 mark)) a) (share_passed us zs c.requires.asked (g.B.Bank.within c.args.bank.now) share c.limits_share-share.ensures)
     ∙ ap (λ (z : ℤ). kept_below n arcs s price (owed us zs) z a) (to_z-of_z w64 mark c.ranges.mark)) in
     record {
-      marks = λ a l. c.take_away.ensures.marks a (omega (arith, c.count.ensures)) ∙ ap (λ b. s a && b) (test a l) ∙ below-kept n arcs sealed s price f (owed us zs) is mark a l;
+      marks = λ a l. c.take_away.ensures.marks a (omega (arith, c.count.ensures)) ∙ ap (λ b. s a && b) (test a l) ∙ below_kept n arcs sealed s price f (owed us zs) is mark a l;
       rest = λ a l. c.take_away.ensures.rest a (omega (arith, c.count.ensures));
-      answer = c.take_away.ensures.answer ∙ ap (size (λ a. s a && not (kept a))) c.count.ensures ∙ size_same _ _ (length arcs) (λ a l. ap (λ b. s a && not b) (test a l) ∙ below-gone n arcs sealed s price f (owed us zs) is mark a l);
+      answer = c.take_away.ensures.answer ∙ ap (size (λ a. s a && not (kept a))) c.count.ensures ∙ size_same _ _ (length arcs) (λ a l. ap (λ b. s a && not b) (test a l) ∙ below_gone n arcs sealed s price f (owed us zs) is mark a l);
     }

@@ -4,7 +4,7 @@ use Rattle.std.proofs.lemmas.Int.{to_z-of_z, ints}
 use Rattle.std.proofs.lemmas.Bool.{le-ltb}
 use Rattle.charts.specs.Drafts.{places_of, arcs_of}
 use Rattle.ways.specs.Minutes.{cheapest_plan}
-use Rattle.ways.proofs.Minutes.{none-cost, some-cost}
+use Rattle.ways.proofs.Minutes.{none_cost, some_cost}
 use Rattle.sweeps.proofs.least.least_minutes.Goals as goal
 
 -- a number that is not negative fits where its bits do
@@ -15,7 +15,7 @@ not_negative x n e f =
 pub overflow_cast-result : goal.overflow_cast-result
 overflow_cast-result c =
     let arcs = arcs_of c.args.chart.now in
-    let r = some-cost arcs (cheapest_plan (places_of c.args.chart.now) arcs) c.in-Some.minutes c.in-Some.ensures.amount in
+    let r = some_cost arcs (cheapest_plan (places_of c.args.chart.now) arcs) c.in-Some.minutes c.in-Some.ensures.amount in
     let f : SFits w64 c.in-Some.minutes = search rules in
     not_negative c.in-Some.minutes r.0 r.1.0 f
 
@@ -25,7 +25,7 @@ returns-in-None c =
     let arcs = arcs_of c.args.chart.now in
     let room : ltb (length c.args.plan.now) n ≡ false = le-ltb (length c.args.plan.now) n (subst (λ m. m ≤ length c.args.plan.now) c.places.ensures.value c.if-plan-places.false) in
     record {
-      reply = rw room (ap Ok (none-cost arcs (cheapest_plan n arcs) c.in-None.ensures.amount));
+      reply = rw room (ap Ok (none_cost arcs (cheapest_plan n arcs) c.in-None.ensures.amount));
       left = rw room c.in-None.ensures.plan;
     }
 
@@ -33,7 +33,7 @@ pub returns-in-Some : goal.returns-in-Some
 returns-in-Some c =
     let n = places_of c.args.chart.now in
     let arcs = arcs_of c.args.chart.now in
-    let r = some-cost arcs (cheapest_plan n arcs) c.in-Some.minutes c.in-Some.ensures.amount in
+    let r = some_cost arcs (cheapest_plan n arcs) c.in-Some.minutes c.in-Some.ensures.amount in
     let room : ltb (length c.args.plan.now) n ≡ false = le-ltb (length c.args.plan.now) n (subst (λ m. m ≤ length c.args.plan.now) c.places.ensures.value c.if-plan-places.false) in
     let f : SFits w64 c.in-Some.minutes = search rules in
     record {

@@ -4,13 +4,13 @@ use Rattle.plans.specs.Arcs.{arc_at}
 use Rattle.tallies.specs.Laws.{wide}
 use Rattle.ways.specs.Amounts.{marked, price_at}
 use Rattle.ways.specs.Ways.{spot}
-use Rattle.ways.proofs.Tables.{Arriving, price_passed, arriving-start, arriving-all, arriving-no, arriving-yes, before-narrow, spot_within}
+use Rattle.ways.proofs.Tables.{Arriving, price_passed, arriving_start, arriving_all, arriving_no, arriving_yes, before_narrow, spot_within}
 use Rattle.sweeps.proofs.sweep.cross.Goals as goal
 use Rattle.sweeps.proofs.sweep.cross.Goals.{then-standing-i+then-arc-place, else-standing-i, else-standing-i-via-then-standing-i+else-arc-place, else-standing-i-via-else-standing-i}
 
 pub loop-i-init : goal.loop-i-init
 loop-i-init g c =
-    arriving-start g.T.Tally g.met.T.Tally.lawful g.H.Heading g.met.H.Heading.lawful c.args.places c.requires.sealed.few c.args.arcs.now _ _ c.requires.fit.small c.args.step c.args.out.now c.requires.more c.requires.filled
+    arriving_start g.T.Tally g.met.T.Tally.lawful g.H.Heading g.met.H.Heading.lawful c.args.places c.requires.sealed.few c.args.arcs.now _ _ c.requires.fit.small c.args.step c.args.out.now c.requires.more c.requires.filled
 
 pub relax-requires : goal.relax-requires
 relax-requires g c =
@@ -32,7 +32,7 @@ relax-requires g c =
     record {
       from_within = omega (arith, from, spot_within h st n k (h.near x) few (omega arith) near);
       to_within = omega (arith, to, spot_within h st n (k + 1) (h.far x) few more (st.far_node x nodes));
-      amount_small = subst (λ q. t.size (get_or c.loop-i.out q t.nothing) < wide) (sym from) (before-narrow t g.met.T.Tally.lawful h st n few arcs _ _ small k i c.requires.more c.loop-i.out (h.near x) near c.loop-i.invariant);
+      amount_small = subst (λ q. t.size (get_or c.loop-i.out q t.nothing) < wide) (sym from) (before_narrow t g.met.T.Tally.lawful h st n few arcs _ _ small k i c.requires.more c.loop-i.out (h.near x) near c.loop-i.invariant);
       price_small = rw (price_passed (price_at c.args.prices.now i) (small i)) (omega (arith, small i));
     }
 
@@ -62,8 +62,8 @@ loop-i-preserved g c =
           let r = w.relax.ensures in
           let o = w.out-is in
           let took = and_from (s i) _ w.if-standing-i.true (eq-eqb x.place (h.place n k) (w.if-arc-place.true ∙ c.place_at-place.ensures)) in
-          arriving-yes t laws h st n few arcs s price small k i c.requires.more c.loop-i.out c.if-standing-i.out (omega arith) took nodes c.loop-i.invariant (cc)
-      | else-standing-i w ↦ subst (λ out. Arriving t h n arcs s price k (i + 1) out) (sym w.out-is) (arriving-no t laws h st n few arcs s price small k i c.requires.more c.loop-i.out (elim w.else-standing-i.branch [
+          arriving_yes t laws h st n few arcs s price small k i c.requires.more c.loop-i.out c.if-standing-i.out (omega arith) took nodes c.loop-i.invariant (cc)
+      | else-standing-i w ↦ subst (λ out. Arriving t h n arcs s price k (i + 1) out) (sym w.out-is) (arriving_no t laws h st n few arcs s price small k i c.requires.more c.loop-i.out (elim w.else-standing-i.branch [
         | else-standing-i-via-then-standing-i+else-arc-place u ↦ and_right (s i) _ (ne_eqb x.place (h.place n k) (λ q. u.if-arc-place.false (q ∙ sym c.place_at-place.ensures)))
         | else-standing-i-via-else-standing-i u ↦ and_left (s i) _ u.if-standing-i.false
       ]) c.loop-i.invariant)
@@ -71,4 +71,4 @@ loop-i-preserved g c =
 
 pub returns : goal.returns
 returns g c =
-    arriving-all g.T.Tally g.met.T.Tally.lawful g.H.Heading g.met.H.Heading.lawful c.args.places c.requires.sealed.few c.args.arcs.now _ _ c.requires.fit.small c.args.step c.loop-i.i c.loop-i.out c.requires.more (omega arith) c.loop-i.invariant
+    arriving_all g.T.Tally g.met.T.Tally.lawful g.H.Heading g.met.H.Heading.lawful c.args.places c.requires.sealed.few c.args.arcs.now _ _ c.requires.fit.small c.args.step c.loop-i.i c.loop-i.out c.requires.more (omega arith) c.loop-i.invariant

@@ -6,7 +6,7 @@ use Rattle.plans.proofs.Steps.{next_from, next_place, next_start}
 use Rattle.tallies.specs.Laws.{wide}
 use Rattle.ways.specs.Amounts.{marked, price_at, backward_amount}
 use Rattle.ways.proofs.Tables.{price_passed}
-use Rattle.ways.proofs.Levels.{end_node, after, amount_narrow, read_table, attains-yes, attains-no}
+use Rattle.ways.proofs.Levels.{end_node, after, amount_narrow, read_table, attains_yes, attains_no}
 use Rattle.sweeps.proofs.trace.pick.Goals as goal
 use Rattle.sweeps.proofs.trace.pick.Goals.{then-standing-i+then-arc-place+then-arc-node+else-first, else-standing-i, else-standing-i-via-then-standing-i+then-arc-place+else-arc-node, else-standing-i-via-then-standing-i+else-arc-place, else-standing-i-via-else-standing-i}
 
@@ -55,7 +55,7 @@ returns-then-first g c =
     let longer = c.extend-part.ensures in
     let part : c.extend-part.result ≡ after t laws n arcs sealed s price small k i = cc in
     let chosen = c.first.ensures.chosen c.if-first.true in
-    (c.loop-i-test.true, ((stands, attains-yes t laws n arcs sealed s price small c.first.ensures.chooses k v c.requires.there c.requires.before_end i stands (cc)), c.loop-i.invariant))
+    (c.loop-i-test.true, ((stands, attains_yes t laws n arcs sealed s price small c.first.ensures.chooses k v c.requires.there c.requires.before_end i stands (cc)), c.loop-i.invariant))
 
 pub loop-i-preserved : goal.loop-i-preserved
 loop-i-preserved g c =
@@ -82,7 +82,7 @@ loop-i-preserved g c =
           let paid = price_passed (price i) (small i) in
           let longer = w.extend-part.ensures in
           let part : w.extend-part.result ≡ after t laws n arcs sealed s price small k i = cc in
-          let back = attains-no t laws n arcs sealed s price small w.first.ensures.chooses k v c.requires.there c.requires.before_end i a.0 a.1 in
+          let back = attains_no t laws n arcs sealed s price small w.first.ensures.chooses k v c.requires.there c.requires.before_end i a.0 a.1 in
           both_ways w.first.result w.if-first.false (w.first.ensures.told (cc))
       | else-standing-i w ↦ elim w.else-standing-i.branch [
         | else-standing-i-via-then-standing-i+then-arc-place+else-arc-node u ↦ u.if-arc-node.false (next_start arcs k v i both.1)

@@ -1,6 +1,6 @@
 use Rattle.std.proofs.Common.{sym, arith}
 use Rattle.charts.specs.Drafts.{arcs_of}
-use Rattle.judging.proofs.Rows.{stray-none}
+use Rattle.judging.proofs.Rows.{stray_none}
 use Rattle.casebooks.proofs.Offers.{path_there}
 use Rattle.casebooks.proofs.casebook.Desk.offer_row.Goals as goal
 
@@ -10,6 +10,6 @@ first_broken-requires g c =
     let p = c.args.offered.now in
     record {
       few = omega (arith, c.if-offered-places.false, c.places.ensures.value, c.places.ensures.sealed.few);
-      there = path_there arcs p 1 0 (stray-none arcs 1 0 p (sym c.in_default.ensures));
+      there = path_there arcs p 1 0 (stray_none arcs 1 0 p (sym c.in_default.ensures));
       rules = omega (arith, c.count.ensures, c.if-count-gt128.false);
     }

@@ -5,7 +5,7 @@ use Rattle.rules.specs.Rules.{no_rule}
 use Rattle.rules.specs.Lawful.{weighed}
 use Rattle.amounts.proofs.Sizes.{add_size}
 use Rattle.amounts.proofs.Passed.{sum_fits, sum_is}
-use Rattle.casebooks.proofs.Offers.{weighed-more}
+use Rattle.casebooks.proofs.Offers.{weighed_more}
 use Rattle.casebooks.proofs.casebook.offers.weigh.Goals as goal
 
 -- what is added is small, and so is the sum
@@ -31,7 +31,7 @@ loop-i-preserved g c =
     let l : i < 32 = omega (arith, c.loop-i-test.true, c.requires.few) in
     let is = sum_is _ _ y 320000 refl (omega (arith, small)) (both _ y i c.loop-i.invariant.1 small l) (omega arith) in
     let u = get_or (g.B.Bank.rules c.args.bank.now) c.args.rule no_rule in
-    let more = weighed-more (arcs_of c.args.chart.now) u c.args.plan.now i c.loop-i-test.true in (
+    let more = weighed_more (arcs_of c.args.chart.now) u c.args.plan.now i c.loop-i-test.true in (
       is ∙ ap (λ x. x +ℤ y) c.loop-i.invariant.0 ∙ ap (λ z. weighed (arcs_of c.args.chart.now) u (take i c.args.plan.now) +ℤ z) c.weight_at-sum.ensures.value ∙ sym more,
       subst (λ z. nat_abs z ≤ 10000 * (i + 1)) (sym is) (step _ y i c.loop-i.invariant.1 small),
     )

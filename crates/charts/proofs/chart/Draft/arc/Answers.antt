@@ -4,7 +4,7 @@ use Rattle.terms.specs.declared.arc.Arc.{Arc}
 use Rattle.plans.specs.Arcs.{OnPlace, OnNodes, AtRoot, AtEnd, InRange}
 use Rattle.charts.specs.Drafts.{as_arc, draft_of, used, arc_rows}
 use Rattle.charts.proofs.Tables.{each_more}
-use Rattle.charts.proofs.Accepted.{on-place, on-nodes, at-root, at-end, no_row}
+use Rattle.charts.proofs.Accepted.{on_place, on_nodes, at_root, at_end, no_row}
 use Rattle.charts.proofs.chart.Draft.arc.Goals as goal
 
 pub invariant_of-self : goal.invariant_of-self
@@ -21,10 +21,10 @@ invariant_of-self c =
       few = s.few;
       long = length-set _ _ _ ∙ s.long;
       within = omega arith;
-      placed = each_more (OnPlace s.places) t.at t.count a h s.placed (on-place s.places x inside);
-      noded = each_more OnNodes t.at t.count a h s.noded (on-nodes s.places x nodes);
-      rooted = each_more AtRoot t.at t.count a h s.rooted (at-root s.places x nodes);
-      ended = each_more (AtEnd s.places) t.at t.count a h s.ended (at-end s.places x nodes);
+      placed = each_more (OnPlace s.places) t.at t.count a h s.placed (on_place s.places x inside);
+      noded = each_more OnNodes t.at t.count a h s.noded (on_nodes s.places x nodes);
+      rooted = each_more AtRoot t.at t.count a h s.rooted (at_root s.places x nodes);
+      ended = each_more (AtEnd s.places) t.at t.count a h s.ended (at_end s.places x nodes);
       ranged = each_more InRange t.at t.count a h s.ranged (omega arith, omega arith);
     }
 

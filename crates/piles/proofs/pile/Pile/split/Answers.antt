@@ -1,7 +1,7 @@
 use Rattle.std.proofs.Common.{◌<◌, ◌≤◌, length, ◌∙◌, arith, length-set}
 use Rattle.piles.specs.declared.pile.Split.{Split}
 use Rattle.piles.proofs.Heights.{length_cases}
-use Rattle.piles.proofs.Views.{split-view, split-low-view}
+use Rattle.piles.proofs.Views.{split_view, split_low_view}
 use Rattle.piles.proofs.pile.Pile.split.Goals as goal
 
 pub invariant_of-self : goal.invariant_of-self
@@ -17,7 +17,7 @@ invariant_of-self c =
       marked = c.cut.ensures.long;
       recorded = length-set _ _ _ ∙ s.recorded;
       within = omega arith;
-      low = split-low-view arcs s.marks.at s.table.at s.table.count some s.low x c.cut.new.self.at long c.cut.ensures.each;
+      low = split_low_view arcs s.marks.at s.table.at s.table.count some s.low x c.cut.new.self.at long c.cut.ensures.each;
     }
 
 pub returns : goal.returns
@@ -28,4 +28,4 @@ returns c =
     let some : 0 < s.table.count = omega (arith, c.requires.some, e) in
     let long : s.table.count ≤ length s.table.at = omega (arith, s.recorded, s.within) in
     let x : Split = record { place = c.args.place; routes = c.args.routes } in
-    split-view arcs s.marks.at s.table.at s.table.count some s.low x c.cut.new.self.at long c.cut.ensures.each
+    split_view arcs s.marks.at s.table.at s.table.count some s.low x c.cut.new.self.at long c.cut.ensures.each
