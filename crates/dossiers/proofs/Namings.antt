@@ -1,5 +1,5 @@
 -- Multipliers that pairs name, one after another. Assumes nothing.
-use Rattle.std.proofs.Common.{◌≡◌, ℕ, ◌≤◌, min, Bool, false, ◌||◌, ltb, List, [], ◌∷◌, length, take, set, replicate, ℤ, pos, Some, None, Option, sym, refl, ap, ◌∙◌, ap₂, inl, inr, arith, length-take}
+use Rattle.std.proofs.Common.{◌≡◌, ℕ, ◌≤◌, min, Bool, false, ◌||◌, List, [], ◌∷◌, take, set, replicate, ℤ, pos, Some, None, Option, sym, refl, ap, ◌∙◌, ap₂, inl, inr, arith, length-take}
 use mathlib.Core.Bool.{or_assoc, or-false}
 use lib.Seq.{take-set-lt, take-set-le}
 use Rattle.std.proofs.lemmas.List.{set_past, take-replicate}

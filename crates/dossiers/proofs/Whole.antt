@@ -21,7 +21,7 @@ use Rattle.drafting.proofs.Sealing.{InOrder, new_sealed, arc_sealed, places_seal
 use Rattle.dossiers.specs.Tolds.{Told}
 use Rattle.dossiers.specs.Namings.{named, naming_rows}
 use Rattle.dossiers.specs.Works.{buffer, naming, counting, pricing, on_work}
-use Rattle.dossiers.specs.Dossiers.{Stage, Drafts, Works, unread, draft_left, drafting, on_stage, Leads, Judged, DossierMeans}
+use Rattle.dossiers.specs.Dossiers.{Stage, Drafts, Works, unread, draft_left, drafting, on_stage, Leads, DossierMeans}
 
 -- the rules of a dossier are in range, whatever was drafted
 rules_in_range : (b : Book) → InRange (rules_of b)

@@ -14,5 +14,5 @@ loop-preserved c = (
 pub returns-after-loop : goal.returns-after-loop
 returns-after-loop c = record { within = c.loop.invariant.0; kept = λ arcs h. keep_end _ c.loop.count c.loop.table arcs c.loop.invariant.0 (ends_full (c.loop.invariant.1 arcs h) c.loop-test.false) }
 
-pub returns-in-default : goal.returns-in-default
-returns-in-default c = record { within = c.loop.invariant.0; kept = λ arcs h. keep_end _ c.loop.count c.loop.table arcs c.loop.invariant.0 (ends_here (c.loop.invariant.1 arcs h) c.in-default.ensures) }
+pub returns-in_default : goal.returns-in_default
+returns-in_default c = record { within = c.loop.invariant.0; kept = λ arcs h. keep_end _ c.loop.count c.loop.table arcs c.loop.invariant.0 (ends_here (c.loop.invariant.1 arcs h) c.in_default.ensures) }

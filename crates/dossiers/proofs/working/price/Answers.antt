@@ -1,6 +1,5 @@
 use Rattle.std.proofs.Common.{ℕ, List, ℤ, ap, ◌∙◌}
 use Rattle.lines.specs.Cursors.{HoldsPairs}
-use Rattle.judging.specs.Cases.{Model}
 use Rattle.judging.specs.Calls.{on_price}
 use Rattle.casebooks.specs.Views.{problem_in, model_in}
 use Rattle.dossiers.specs.Tolds.{replied_by, amount_told}
@@ -13,10 +12,10 @@ returns g c =
     let t = problem_in g.B.Bank c.args.book.now in
     let m = model_in c.args.book.now in
     let zs = c.all.result.now in
-    let made : (xs : List (ℕ × ℤ)) → HoldsPairs xs c.args.items → Made (naming t m xs (λ zs. pricing (on_price t m zs buffer))) (replied_by c.tell-amount.result) m =
-    λ xs h. with_named t m xs c.rule-count.result c.in-ok-multipliers.multipliers zs (λ zs. pricing (on_price t m zs buffer)) c.rule-count.ensures (c.in-ok-multipliers.ensures xs h) c.all.ensures
+    let made : (xs : List (ℕ × ℤ)) → HoldsPairs xs c.args.items → Made (naming t m xs (λ zs. pricing (on_price t m zs buffer))) (replied_by c.tell_amount.result) m =
+    λ xs h. with_named t m xs c.rule_count.result c.in_ok-multipliers.multipliers zs (λ zs. pricing (on_price t m zs buffer)) c.rule_count.ensures (c.in_ok-multipliers.ensures xs h) c.all.ensures
     (record {
-      reply = c.tell-amount.ensures ∙ ap amount_told (c.price.ensures.reply ∙ ap (λ (room : List ℕ). (on_price t m zs room).answer) c.buffer-plan.ensures);
+      reply = c.tell_amount.ensures ∙ ap amount_told (c.price.ensures.reply ∙ ap (λ (room : List ℕ). (on_price t m zs room).answer) c.buffer-plan.ensures);
       left = c.price.ensures.left ∙ ap (λ (room : List ℕ). (on_price t m zs room).left.model) c.buffer-plan.ensures;
     }) in
     record { reply = λ xs h. (made xs h).reply; left = λ xs h. (made xs h).left }

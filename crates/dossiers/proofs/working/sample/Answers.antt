@@ -9,6 +9,6 @@ pub returns : goal.returns
 returns g c =
     let t = problem_in g.B.Bank c.args.book.now in
     let m = model_in c.args.book.now in
-    let made : Made (on_work t m Sample) (replied_by c.tell-plan.result) m =
-    with_sample t m c.buffer-at.result c.sample-answer.new.plan c.places.result c.buffer-at.ensures c.places.ensures.value c.tell-plan.ensures c.sample-answer.ensures.reply c.sample-answer.ensures.buffer c.sample-answer.ensures.left in
+    let made : Made (on_work t m Sample) (replied_by c.tell_plan.result) m =
+    with_sample t m c.buffer-at.result c.sample-answer.new.plan c.places.result c.buffer-at.ensures c.places.ensures.value c.tell_plan.ensures c.sample-answer.ensures.reply c.sample-answer.ensures.buffer c.sample-answer.ensures.left in
     record { reply = made.reply; left = made.left }

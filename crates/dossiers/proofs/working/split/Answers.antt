@@ -11,6 +11,6 @@ pub returns : goal.returns
 returns g c =
     let t = problem_in g.B.Bank c.args.book.now in
     let m = model_in c.args.book.now in
-    let made : (qs : List ℕ) → HoldsNumbers qs c.args.items → Made (on_work t m (Split c.args.place qs)) (replied_by c.tell-count.result) (model_in c.split.new.self) =
-    λ qs h. with_routes t m c.args.place qs c.in-ok-routes.routes (c.in-ok-routes.ensures qs h) c.tell-count.ensures c.split.ensures.reply c.split.ensures.left in
+    let made : (qs : List ℕ) → HoldsNumbers qs c.args.items → Made (on_work t m (Split c.args.place qs)) (replied_by c.tell_count.result) (model_in c.split.new.self) =
+    λ qs h. with_routes t m c.args.place qs c.in_ok-routes.routes (c.in_ok-routes.ensures qs h) c.tell_count.ensures c.split.ensures.reply c.split.ensures.left in
     record { reply = λ qs h. (made qs h).reply; left = λ qs h. (made qs h).left; same = c.split.ensures.same }

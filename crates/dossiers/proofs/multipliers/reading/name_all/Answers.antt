@@ -11,8 +11,8 @@ loop-preserved c xs h =
     goes_on (c.loop.invariant xs h) c.in-Some.ensures
     (name_next c.args.count c.loop.found c.in-Some.pair c.loop.table _ _ c.name-found.ensures.answer c.name-found.ensures.table)
 
-pub returns-in-default : goal.returns-in-default
-returns-in-default c xs h = name_all _ _ _ _ (ends_here (c.loop.invariant xs h) c.in-default.ensures)
+pub returns-in_default : goal.returns-in_default
+returns-in_default c xs h = name_all _ _ _ _ (ends_here (c.loop.invariant xs h) c.in_default.ensures)
 
 pub returns-after-loop : goal.returns-after-loop
 returns-after-loop c xs h = name_all _ _ _ _ (ends_full (c.loop.invariant xs h) c.loop-test.false)
