@@ -14,24 +14,25 @@ use std::io::{BufWriter, Read, Write};
 use terms::refusal::Refusal;
 use terms::verdict::Verdict;
 
-/// As many bytes of a line are kept: one more than a line may have, so that a longer one is seen to be too long.
-const KEPT: usize = 4097;
+const MOST: usize = 4096;
 
 const CHUNK: usize = 8192;
 
-/// Standard input, line by line, in fixed memory: a chunk that was read, and the first bytes of the line so far.
+/// Standard input, line by line, in fixed memory: a chunk that was read, and the line so far, of which at most the
+/// first 4,096 bytes are kept.
 #[derive(Drop)]
 struct Lines {
     chunk: [u8; CHUNK],
     filled: usize,
     at: usize,
-    line: [u8; KEPT],
+    line: [u8; MOST],
     len: usize,
+    over: bool,
     ghost chunked: { length chunk ≡ 8192 },
     ghost full: { filled ≤ 8192 },
     ghost within: { at ≤ filled },
-    ghost lined: { length line ≡ 4097 },
-    ghost short: { len ≤ 4097 },
+    ghost lined: { length line ≡ 4096 },
+    ghost short: { len ≤ 4096 },
 }
 
 impl Lines {
@@ -40,17 +41,20 @@ impl Lines {
             chunk: [0; CHUNK],
             filled: 0,
             at: 0,
-            line: [0; KEPT],
+            line: [0; MOST],
             len: 0,
+            over: false,
         }
     }
 
     /// One byte more of the line.
     fn push(&mut self, b: u8) {
         let len = self.len;
-        if len < KEPT {
+        if len < MOST {
             self.line[len] = b;
             self.len = len + 1;
+        } else {
+            self.over = true;
         }
     }
 
@@ -74,6 +78,7 @@ impl Lines {
     /// Reads the next line; answers whether there is one. What was written is flushed before input is waited for.
     fn next(&mut self, input: &mut impl Read, out: &mut impl Write) -> io::Result<bool> {
         self.len = 0;
+        self.over = false;
         for _ in 0..u64::MAX {
             if self.advance() {
                 return Ok(true);
@@ -89,9 +94,12 @@ impl Lines {
         Ok(false)
     }
 
-    /// The line, of which a longer one is cut after 4,097 bytes.
-    fn line(&self) -> &[u8] {
-        &self.line[0..self.len]
+    /// The line, or its refusal where it is longer than a line may be.
+    fn line(&self) -> Result<&[u8], Refusal> {
+        if self.over {
+            return Err(Refusal::Grammar(4097));
+        }
+        Ok(&self.line[0..self.len])
     }
 }
 
@@ -187,7 +195,11 @@ fn draft(
         if !lines.next(input, out)? {
             return Ok(false);
         }
-        match drafting.line(lines.line()) {
+        let step = match lines.line() {
+            Ok(line) => drafting.line(line),
+            Err(refusal) => Err(refusal),
+        };
+        match step {
             Ok(Step::Seals) => return Ok(true),
             Ok(Step::Counts(n)) => summary.reply(out, Ok(Answer::Count(n)))?,
             Err(refusal) => summary.reply(out, Err(refusal))?,
@@ -208,7 +220,11 @@ fn judge<B: Bank>(
         if !lines.next(input, out)? {
             break;
         }
-        summary.reply(out, working::line(book, lines.line()))?;
+        let reply = match lines.line() {
+            Ok(line) => working::line(book, line),
+            Err(refusal) => Err(refusal),
+        };
+        summary.reply(out, reply)?;
     }
     Ok(())
 }
