@@ -1,8 +1,8 @@
 """Tries one edit of client code that the compiler must turn down.
 
 An edit has five lines: the crate, the file in it, the text that stands there once, the text put in its place, and
-the name of the error that the compiler must give. The edit is made on a copy of the repository beside what rt has
-proved already; the repository itself is not touched.
+the name of the error that the compiler must give. The edit is made on a copy of the repository, whose sources the
+compiler reads before anything is proved; the repository itself is not touched.
 """
 
 import re
@@ -27,16 +27,14 @@ def main():
     with tempfile.TemporaryDirectory() as folder:
         copy = Path(folder)
         shutil.copy("crates.txt", copy)
-        shutil.copytree("crates", copy / "crates")
-        for part in ("rlib", "stamp"):
-            shutil.copytree(Path("target") / part, copy / "target" / part)
+        shutil.copytree("crates", copy / "crates", ignore=shutil.ignore_patterns("out"))
         source = copy / "crates" / edit["crate"] / edit["file"]
         text = source.read_text()
         if text.count(edit["old"]) != 1:
             print(f"refused {path.stem}: BAD EDIT: the old text stands {text.count(edit['old'])} times")
             return 1
         source.write_text(text.replace(edit["old"], edit["new"]))
-        run = subprocess.run(["rt", "check", edit["crate"]], cwd=copy, capture_output=True, text=True)
+        run = subprocess.run(["rt", "check"], cwd=copy / "crates" / edit["crate"], capture_output=True, text=True)
         errors = re.findall(r"error\[([a-z0-9-]+)\]", run.stdout + run.stderr)
     if errors and errors[0] == edit["error"] and run.returncode != 0:
         print(f"refused {path.stem}: turned down, as it must be ({errors[0]})")
