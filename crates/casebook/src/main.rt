@@ -7,12 +7,12 @@ use casebooks::casebook::Casebook;
 use dossiers::answer::{Answer, PlanArcs};
 use dossiers::opening::open;
 use dossiers::working;
-use drafting::drafting::{Drafting, Step};
 use rules::bank::Bank;
 use std::io;
 use std::io::{BufWriter, Read, Write};
 use terms::refusal::Refusal;
 use terms::verdict::Verdict;
+use unsealed::drafting::{Drafting, Step};
 
 const MOST: usize = 4096;
 

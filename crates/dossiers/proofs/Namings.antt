@@ -7,7 +7,7 @@ use Rattle.std.proofs.lemmas.Bool.{cases_lt, lt-ltb, le-ltb}
 use Rattle.terms.specs.declared.refusal.Refusal.{Refusal}
 use Rattle.terms.specs.declared.refusal.Refusal.TheVariants.{TooManyRules, MultiplierCount}
 use Rattle.terms.specs.Refusals.{when, or_else}
-use Rattle.drafting.specs.Items.{some}
+use Rattle.unsealed.specs.Items.{some}
 use Rattle.dossiers.specs.Namings.{naming, named, unknown, naming_causes}
 
 -- whether a pair names none of n rules, with what was found so far, and the multipliers named

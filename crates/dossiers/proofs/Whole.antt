@@ -13,11 +13,11 @@ use Rattle.judging.specs.Theorem.{Posed, Meant}
 use Rattle.judging.proofs.Finish.{run_both}
 use Rattle.judging.proofs.Means.{verdict_means}
 use Rattle.lines.specs.Forms.{Form, Casebook, Places, Arc, Once, Order, Budget, Seal, Claim, Price, Sample, Strike, Trim, Split, Close, Offer, Verdict}
-use Rattle.drafting.specs.Items.{some, no_route, set_of}
-use Rattle.drafting.specs.Books.{Book, set_in, limit_in, rules_of}
-use Rattle.drafting.specs.Stages.{Drafted, counted, on_begun, on_unbegun, on_form, places_rows, on_places}
-use Rattle.drafting.specs.Replies.{Replies, ByForm, ByByte}
-use Rattle.drafting.proofs.Sealing.{InOrder, new_sealed, arc_sealed, places_sealed}
+use Rattle.unsealed.specs.Items.{some, no_route, set_of}
+use Rattle.unsealed.specs.Books.{Book, set_in, limit_in, rules_of}
+use Rattle.unsealed.specs.Stages.{Drafted, counted, on_begun, on_unbegun, on_form, places_rows, on_places}
+use Rattle.unsealed.specs.Replies.{Replies, ByForm, ByByte}
+use Rattle.unsealed.proofs.Sealing.{InOrder, new_sealed, arc_sealed, places_sealed}
 use Rattle.dossiers.specs.Tolds.{Told}
 use Rattle.dossiers.specs.Namings.{named, naming_rows}
 use Rattle.dossiers.specs.Works.{buffer, naming, counting, pricing, on_work}

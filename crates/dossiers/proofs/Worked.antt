@@ -17,7 +17,7 @@ use Rattle.lines.specs.declared.form.NumberItems.{NumberItems}
 use Rattle.lines.specs.declared.form.TripleItems.{TripleItems}
 use Rattle.lines.specs.Forms.{Form, Sample, Split, Offer}
 use Rattle.lines.specs.Readings.{Means}
-use Rattle.drafting.specs.Items.{some, no_route, set_of, as_set, routes_read}
+use Rattle.unsealed.specs.Items.{some, no_route, set_of, as_set, routes_read}
 use Rattle.dossiers.specs.declared.multipliers.Multipliers.{Multipliers}
 use Rattle.dossiers.specs.Tolds.{Told, count_told, plan_told}
 use Rattle.dossiers.specs.Namings.{named, naming_causes, ReadAs}

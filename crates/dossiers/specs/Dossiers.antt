@@ -10,10 +10,10 @@ use Rattle.judging.specs.Theorem.{Posed, Recalled, Meant}
 use Rattle.casebooks.specs.declared.casebook.Casebook.{Casebook}
 use Rattle.casebooks.specs.Views.{problem_in, model_in}
 use Rattle.lines.specs.Forms.{Form, Verdict}
-use Rattle.drafting.specs.declared.drafting.Step.{Step}
-use Rattle.drafting.specs.declared.drafting.Step.TheVariants.{Counts, Seals}
-use Rattle.drafting.specs.Stages.{Drafted, new_drafted, posed, on_form}
-use Rattle.drafting.specs.Replies.{Replies}
+use Rattle.unsealed.specs.declared.drafting.Step.{Step}
+use Rattle.unsealed.specs.declared.drafting.Step.TheVariants.{Counts, Seals}
+use Rattle.unsealed.specs.Stages.{Drafted, new_drafted, posed, on_form}
+use Rattle.unsealed.specs.Replies.{Replies}
 use Rattle.dossiers.specs.Tolds.{Told, Count, Word}
 use Rattle.dossiers.specs.Works.{on_work}
 

@@ -4,7 +4,7 @@ use Rattle.terms.specs.declared.refusal.Refusal.{Refusal}
 use Rattle.terms.specs.declared.refusal.Refusal.TheVariants.{TooManyRules, MultiplierCount}
 use Rattle.terms.specs.Refusals.{when, earliest}
 use Rattle.rules.specs.Lawful.{Problem}
-use Rattle.drafting.specs.Items.{some}
+use Rattle.unsealed.specs.Items.{some}
 use Rattle.dossiers.specs.declared.multipliers.Multipliers.{Multipliers}
 
 -- multipliers, with those that pairs (rule, multiplier) name written into them one after another

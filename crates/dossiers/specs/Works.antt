@@ -6,7 +6,7 @@ use Rattle.rules.specs.Lawful.{Problem}
 use Rattle.judging.specs.Cases.{Model}
 use Rattle.judging.specs.Calls.{Lent, on_claim, on_price, on_sample, on_strike, on_trim, on_split, on_close, on_offer, verdict_of}
 use Rattle.lines.specs.Forms.{Form, Casebook, Places, Arc, Once, Order, Budget, Seal, Claim, Price, Sample, Strike, Trim, Split, Close, Offer, Verdict}
-use Rattle.drafting.specs.Items.{some, no_route, set_of}
+use Rattle.unsealed.specs.Items.{some, no_route, set_of}
 use Rattle.dossiers.specs.Tolds.{Told, Word, count_told, amount_told, plan_told}
 use Rattle.dossiers.specs.Namings.{named, naming_rows}
 

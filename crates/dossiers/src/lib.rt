@@ -5,8 +5,8 @@
 
 pub mod answer;
 pub mod drafting;
-pub mod judging;
 mod multipliers;
 mod offers;
 pub mod opening;
+pub mod sealed;
 pub mod working;

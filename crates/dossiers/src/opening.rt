@@ -3,17 +3,17 @@ ghost use Rattle.std.specs.Prelude.{◌≡◌};
 ghost use Rattle.charts.specs.Drafts.{places_of, arcs_of};
 ghost use Rattle.judging.specs.Cases.{opened};
 ghost use Rattle.casebooks.specs.Views.{problem_of, model_in};
-ghost use Rattle.drafting.specs.Books.{book_of, bits_in, set_in, limit_in, rules_of};
+ghost use Rattle.unsealed.specs.Books.{book_of, bits_in, set_in, limit_in, rules_of};
 ghost use Rattle.dossiers.specs.Opened.{rules_in};
 
 use casebooks::casebook::Casebook;
 use charts::chart::Chart;
-use drafting::book::RuleBook;
 use rules::budget::Budget;
 use rules::once::Once;
 use rules::order::Order;
 use rules::pair::Pair;
 use terms::routes::RouteSet;
+use unsealed::book::RuleBook;
 
 /// The routes of once, none where no once came.
 fn once_routes(once: Option<RouteSet>) -> RouteSet

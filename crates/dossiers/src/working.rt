@@ -4,7 +4,7 @@ ghost use Rattle.casebooks.specs.Views.{problem_in, model_in};
 ghost use Rattle.lines.specs.Cursors.{HoldsNumbers, HoldsPairs};
 ghost use Rattle.lines.specs.Forms.{Form as Said, Price, Sample, Strike, Split, Close, Offer};
 ghost use Rattle.lines.specs.Readings.{Means};
-ghost use Rattle.drafting.specs.Replies.{Replies};
+ghost use Rattle.unsealed.specs.Replies.{Replies};
 ghost use Rattle.dossiers.specs.Tolds.{replied_by, count_told, amount_told, plan_told};
 ghost use Rattle.dossiers.specs.Works.{on_work};
 ghost use Rattle.dossiers.specs.Dossiers.{on_stage, stage_of, unread, Leads, Judged};
@@ -13,10 +13,10 @@ use crate::answer::{Answer, PlanArcs};
 use crate::multipliers::Multipliers;
 use crate::offers::OfferedArcs;
 use casebooks::casebook::Casebook;
-use drafting::items::route_set;
 use lines::form::{Form, NumberItems, PairItems};
 use rules::bank::Bank;
 use terms::refusal::Refusal;
+use unsealed::items::route_set;
 
 /// A buffer for a plan, long enough for every chart.
 fn buffer() -> [usize; 32]

@@ -1,13 +1,13 @@
 //! How the multipliers of a line are read.
 ghost use Rattle.std.specs.Prelude.{◌≡◌, ℕ, List, take, replicate, ℤ, pos, slice_set};
 ghost use Rattle.lines.specs.Cursors.{HoldsPairs};
-ghost use Rattle.drafting.specs.Items.{some};
+ghost use Rattle.unsealed.specs.Items.{some};
 ghost use Rattle.dossiers.specs.Namings.{unknown, naming, ReadAs};
 
 use crate::multipliers::Multipliers;
-use drafting::items::put;
 use lines::form::PairItems;
 use terms::refusal::Refusal;
+use unsealed::items::put;
 
 /// 128 multipliers, each 0.
 fn zeros() -> [i64; 128]

@@ -1,5 +1,5 @@
 use Rattle.std.proofs.Common.{ℕ, [], ◌∷◌, ◌++◌, length, take, ap, ◌∙◌, arith}
-use Rattle.drafting.proofs.Turns.{goes_on, ends_here, ends_full}
+use Rattle.unsealed.proofs.Turns.{goes_on, ends_here, ends_full}
 use Rattle.dossiers.proofs.Kept.{keep_next, keep_end}
 use Rattle.dossiers.proofs.offers.keep_all.Goals as goal
 

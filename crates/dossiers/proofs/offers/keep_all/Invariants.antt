@@ -1,6 +1,6 @@
 use Rattle.std.proofs.Common.{ℕ, ◌≤◌, List, ◌++◌, length, take}
 use Rattle.lines.specs.Cursors.{HoldsNumbers}
-use Rattle.drafting.proofs.Turns.{Goes}
+use Rattle.unsealed.proofs.Turns.{Goes}
 use Rattle.dossiers.proofs.offers.keep_all.Given as goal
 
 -- what is kept from here on is what was to be kept

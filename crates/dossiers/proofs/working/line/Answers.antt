@@ -1,7 +1,7 @@
 use Rattle.std.proofs.Common.{ap₂}
 use Rattle.rules.specs.Lawful.{Problem}
 use Rattle.judging.specs.Cases.{Model}
-use Rattle.drafting.proofs.Answered.{by_form, by_byte}
+use Rattle.unsealed.proofs.Answered.{by_form, by_byte}
 use Rattle.dossiers.specs.Dossiers.{Works}
 use Rattle.dossiers.proofs.Whole.{dossier_means}
 use Rattle.dossiers.proofs.working.line.Goals as goal

@@ -1,5 +1,5 @@
 use Rattle.std.proofs.Common.{refl}
-use Rattle.drafting.proofs.Turns.{begins, goes_on, ends_here, ends_full}
+use Rattle.unsealed.proofs.Turns.{begins, goes_on, ends_here, ends_full}
 use Rattle.dossiers.proofs.Namings.{name_next, name_all}
 use Rattle.dossiers.proofs.multipliers.reading.name_all.Goals as goal
 

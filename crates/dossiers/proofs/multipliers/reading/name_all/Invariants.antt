@@ -1,6 +1,6 @@
 use Rattle.std.proofs.Common.{ℕ, List, ℤ}
 use Rattle.lines.specs.Cursors.{HoldsPairs}
-use Rattle.drafting.proofs.Turns.{Goes}
+use Rattle.unsealed.proofs.Turns.{Goes}
 use Rattle.dossiers.proofs.Namings.{both}
 use Rattle.dossiers.proofs.multipliers.reading.name_all.Given as goal
 

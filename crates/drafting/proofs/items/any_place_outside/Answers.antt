@@ -1,7 +1,0 @@
-use Rattle.std.proofs.Common.{sym, ◌∙◌}
-use mathlib.Core.Bool.{or-false}
-use Rattle.drafting.proofs.Turns.{ends_full}
-use Rattle.drafting.proofs.items.any_place_outside.Goals as goal
-
-pub returns-after-loop : goal.returns-after-loop
-returns-after-loop c xs h = sym (or-false c.loop.found) ∙ ends_full (c.loop.invariant xs h) c.loop-test.false
