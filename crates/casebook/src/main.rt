@@ -3,13 +3,16 @@
 
 ghost use Rattle.std.specs.Prelude.{◌≡◌, ◌≤◌, length};
 
+mod output;
+
+use crate::output::Gathered;
 use casebooks::casebook::Casebook;
 use dossiers::answer::{Answer, PlanArcs};
 use dossiers::opening::open;
 use dossiers::working;
 use rules::bank::Bank;
 use std::io;
-use std::io::{BufWriter, Read, Write};
+use std::io::{Read, Write};
 use terms::refusal::Refusal;
 use terms::verdict::Verdict;
 use unsealed::drafting::{Drafting, Step};
@@ -231,7 +234,7 @@ fn judge<B: Bank>(
 
 fn main(rt: HostRuntime) -> io::Result<()> {
     let mut input = rt.stdin();
-    let mut out = BufWriter::new(rt.alloc(), rt.stdout())?;
+    let mut out = Gathered::new(rt.stdout());
     let mut lines = Lines::new();
     let mut summary = Summary {
         lines: 0,
