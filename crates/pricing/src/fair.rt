@@ -1,7 +1,7 @@
 //! Which multipliers are fair.
 ghost use Rattle.std.specs.Prelude.{◌≡◌, ◌<◌, length, get_or, pos, slice_index_or};
 ghost use Rattle.rules.specs.Rules.{no_rule};
-ghost use Rattle.amounts.specs.Multipliers.{fair as mayHave, unfair, lowest};
+ghost use Rattle.amounts.specs.Multipliers.{fair as may_have, unfair, lowest};
 ghost use Rattle.through.specs.Pricings.{Matched};
 
 use rules::bank::Bank;
@@ -9,7 +9,7 @@ use terms::rule::Sense;
 
 /// Whether a rule of this sense may have this multiplier.
 fn is_fair(sense: Sense, multiplier: i64) -> bool
-    ensures { result ≡ mayHave sense multiplier }
+    ensures { result ≡ may_have sense multiplier }
 {
     match sense {
         Sense::AtMost => 0 <= multiplier && multiplier <= 1_000_000_000,
@@ -21,7 +21,7 @@ fn is_fair(sense: Sense, multiplier: i64) -> bool
 fn has_fair<B: Bank>(bank: &B, multipliers: &[i64], rule: usize) -> bool
     requires matched { Matched (B.Bank.rules bank.now) multipliers.now }
     requires there { rule < length multipliers.now }
-    ensures { result ≡ mayHave (get_or (B.Bank.rules bank.now) rule no_rule).sense (slice_index_or multipliers.now rule (pos 0)) }
+    ensures { result ≡ may_have (get_or (B.Bank.rules bank.now) rule no_rule).sense (slice_index_or multipliers.now rule (pos 0)) }
 {
     match bank.head(rule) {
         None => true,

@@ -1,9 +1,9 @@
 //! The least priced amount over the standing plans, and the first plan with that amount.
 ghost use Rattle.std.specs.Prelude.{◌≡◌, ◌≤◌, length};
-ghost use Rattle.plans.specs.Cases.{standing as standingPlans};
+ghost use Rattle.plans.specs.Cases.{standing as standing_plans};
 ghost use Rattle.plans.specs.Firsts.{cheapest, amount_in, written};
 ghost use Rattle.charts.specs.Drafts.{places_of, arcs_of};
-ghost use Rattle.amounts.specs.Amounts.{amount as pricedAmount};
+ghost use Rattle.amounts.specs.Amounts.{amount as priced_amount};
 ghost use Rattle.ways.specs.Amounts.{marked, price_at, Sweepable};
 ghost use Rattle.ways.specs.Sums.{price_sum};
 ghost use Rattle.through.specs.Pricings.{problem, Priceable};
@@ -19,7 +19,7 @@ use tallies::kinds::Least;
 /// The least sum of prices over the standing plans, if any stands.
 fn least_sum(chart: &Chart, standing: &[bool], prices: &[i64]) -> Option<i64>
     requires { Sweepable (arcs_of chart.now) standing.now prices.now }
-    ensures { result ≡ amount_in (price_sum (price_at prices.now)) (cheapest (price_sum (price_at prices.now)) (standingPlans (places_of chart.now) (arcs_of chart.now) (marked standing.now))) }
+    ensures { result ≡ amount_in (price_sum (price_at prices.now)) (cheapest (price_sum (price_at prices.now)) (standing_plans (places_of chart.now) (arcs_of chart.now) (marked standing.now))) }
 {
     let _ = chart.places();
     let mut table = [None; 1056];
@@ -36,7 +36,7 @@ pub fn least_amount<B: Bank>(
 ) -> Option<i64>
     requires asked { Priceable (B.Bank.rules bank.now) multipliers.now }
     requires marks { length (arcs_of chart.now) ≤ length standing.now }
-    ensures { result ≡ amount_in (pricedAmount (problem (places_of chart.now) (arcs_of chart.now) (B.Bank.rules bank.now)) multipliers.now) (cheapest (pricedAmount (problem (places_of chart.now) (arcs_of chart.now) (B.Bank.rules bank.now)) multipliers.now) (standingPlans (places_of chart.now) (arcs_of chart.now) (marked standing.now))) }
+    ensures { result ≡ amount_in (priced_amount (problem (places_of chart.now) (arcs_of chart.now) (B.Bank.rules bank.now)) multipliers.now) (cheapest (priced_amount (problem (places_of chart.now) (arcs_of chart.now) (B.Bank.rules bank.now)) multipliers.now) (standing_plans (places_of chart.now) (arcs_of chart.now) (marked standing.now))) }
 {
     let _ = chart.places();
     let prices = standing_prices(chart, bank, multipliers, standing);
@@ -56,8 +56,8 @@ pub fn priced_plan<B: Bank>(
     requires asked { Priceable (B.Bank.rules bank.now) multipliers.now }
     requires marks { length (arcs_of chart.now) ≤ length standing.now }
     requires room { places_of chart.now ≤ length plan.old }
-    ensures amount { result ≡ amount_in (pricedAmount (problem (places_of chart.now) (arcs_of chart.now) (B.Bank.rules bank.now)) multipliers.now) (cheapest (pricedAmount (problem (places_of chart.now) (arcs_of chart.now) (B.Bank.rules bank.now)) multipliers.now) (standingPlans (places_of chart.now) (arcs_of chart.now) (marked standing.now))) }
-    ensures plan { plan.new ≡ written (cheapest (pricedAmount (problem (places_of chart.now) (arcs_of chart.now) (B.Bank.rules bank.now)) multipliers.now) (standingPlans (places_of chart.now) (arcs_of chart.now) (marked standing.now))) plan.old }
+    ensures amount { result ≡ amount_in (priced_amount (problem (places_of chart.now) (arcs_of chart.now) (B.Bank.rules bank.now)) multipliers.now) (cheapest (priced_amount (problem (places_of chart.now) (arcs_of chart.now) (B.Bank.rules bank.now)) multipliers.now) (standing_plans (places_of chart.now) (arcs_of chart.now) (marked standing.now))) }
+    ensures plan { plan.new ≡ written (cheapest (priced_amount (problem (places_of chart.now) (arcs_of chart.now) (B.Bank.rules bank.now)) multipliers.now) (standing_plans (places_of chart.now) (arcs_of chart.now) (marked standing.now))) plan.old }
 {
     let _ = chart.places();
     let prices = standing_prices(chart, bank, multipliers, standing);

@@ -1,8 +1,8 @@
 //! Which arcs are on standing plans priced below a mark.
 ghost use Rattle.std.specs.Prelude.{◌≡◌, ℕ, ◌*◌, ◌<◌, ◌≤◌, length, int_lt, unsigned_abs};
-ghost use Rattle.plans.specs.Cases.{those, standing as standingPlans, kept as keptOn, gone, size};
+ghost use Rattle.plans.specs.Cases.{those, standing as standing_plans, kept as kept_on, gone, size};
 ghost use Rattle.charts.specs.Drafts.{places_of, arcs_of};
-ghost use Rattle.amounts.specs.Amounts.{amount as pricedAmount};
+ghost use Rattle.amounts.specs.Amounts.{amount as priced_amount};
 ghost use Rattle.tallies.specs.Laws.{wide};
 ghost use Rattle.tallies.specs.Kinds.{least_size};
 ghost use Rattle.ways.specs.Amounts.{marked, price_at, Sweepable};
@@ -123,9 +123,9 @@ pub fn strike<B: Bank>(
 ) -> usize
     requires asked { Priceable (B.Bank.rules bank.now) multipliers.now }
     requires marks { length (arcs_of chart.now) ≤ length standing.old }
-    ensures marks { (a : ℕ) → a < length (arcs_of chart.now) → marked standing.new a ≡ keptOn (those (λ p. int_lt (pricedAmount (problem (places_of chart.now) (arcs_of chart.now) (B.Bank.rules bank.now)) multipliers.now p) mark) (standingPlans (places_of chart.now) (arcs_of chart.now) (marked standing.old))) (marked standing.old) a }
+    ensures marks { (a : ℕ) → a < length (arcs_of chart.now) → marked standing.new a ≡ kept_on (those (λ p. int_lt (priced_amount (problem (places_of chart.now) (arcs_of chart.now) (B.Bank.rules bank.now)) multipliers.now p) mark) (standing_plans (places_of chart.now) (arcs_of chart.now) (marked standing.old))) (marked standing.old) a }
     ensures rest { (a : ℕ) → length (arcs_of chart.now) ≤ a → marked standing.new a ≡ marked standing.old a }
-    ensures answer { result ≡ size (gone (those (λ p. int_lt (pricedAmount (problem (places_of chart.now) (arcs_of chart.now) (B.Bank.rules bank.now)) multipliers.now p) mark) (standingPlans (places_of chart.now) (arcs_of chart.now) (marked standing.old))) (marked standing.old)) (length (arcs_of chart.now)) }
+    ensures answer { result ≡ size (gone (those (λ p. int_lt (priced_amount (problem (places_of chart.now) (arcs_of chart.now) (B.Bank.rules bank.now)) multipliers.now p) mark) (standing_plans (places_of chart.now) (arcs_of chart.now) (marked standing.old))) (marked standing.old)) (length (arcs_of chart.now)) }
 {
     let _ = chart.places();
     let prices = standing_prices(chart, bank, multipliers, standing);

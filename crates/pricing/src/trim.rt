@@ -1,6 +1,6 @@
 //! Which arcs are on standing plans.
 ghost use Rattle.std.specs.Prelude.{◌≡◌, ℕ, ◌<◌, ◌≤◌, length};
-ghost use Rattle.plans.specs.Cases.{standing as standingPlans, kept as keptOn, gone, size};
+ghost use Rattle.plans.specs.Cases.{standing as standing_plans, kept as kept_on, gone, size};
 ghost use Rattle.charts.specs.Drafts.{places_of, arcs_of};
 ghost use Rattle.ways.specs.Amounts.{marked, price_at, Sweepable};
 ghost use Rattle.through.specs.Keeping.{AllEntered, table_reached, kept_reached};
@@ -57,9 +57,9 @@ fn reached_arcs(chart: &Chart, standing: &[bool], prices: &[i64]) -> [bool; 1024
 /// Takes away the mark of each arc on no standing plan, and answers how many.
 pub fn trim(chart: &Chart, standing: &mut [bool]) -> usize
     requires { length (arcs_of chart.now) ≤ length standing.old }
-    ensures marks { (a : ℕ) → a < length (arcs_of chart.now) → marked standing.new a ≡ keptOn (standingPlans (places_of chart.now) (arcs_of chart.now) (marked standing.old)) (marked standing.old) a }
+    ensures marks { (a : ℕ) → a < length (arcs_of chart.now) → marked standing.new a ≡ kept_on (standing_plans (places_of chart.now) (arcs_of chart.now) (marked standing.old)) (marked standing.old) a }
     ensures rest { (a : ℕ) → length (arcs_of chart.now) ≤ a → marked standing.new a ≡ marked standing.old a }
-    ensures answer { result ≡ size (gone (standingPlans (places_of chart.now) (arcs_of chart.now) (marked standing.old)) (marked standing.old)) (length (arcs_of chart.now)) }
+    ensures answer { result ≡ size (gone (standing_plans (places_of chart.now) (arcs_of chart.now) (marked standing.old)) (marked standing.old)) (length (arcs_of chart.now)) }
 {
     let _ = chart.places();
     let prices = no_prices();

@@ -2,7 +2,7 @@
 ghost use Rattle.std.specs.Prelude.{◌≡◌, ℕ, ◌<◌, ◌≤◌, true, false, length, pos, slice_index_or};
 ghost use Rattle.plans.specs.Arcs.{arc_at};
 ghost use Rattle.plans.specs.Plans.{cost};
-ghost use Rattle.plans.specs.Cases.{standing as standingPlans};
+ghost use Rattle.plans.specs.Cases.{standing as standing_plans};
 ghost use Rattle.plans.specs.Firsts.{foremost, cheapest, amount_in, written, is_there};
 ghost use Rattle.charts.specs.Drafts.{places_of, arcs_of};
 ghost use Rattle.ways.specs.Amounts.{marked, price_at, Sweepable};
@@ -42,8 +42,8 @@ pub fn least_plan(
 ) -> Option<i64>
     requires fit { Sweepable (arcs_of chart.now) standing.now prices.now }
     requires room { places_of chart.now ≤ length plan.old }
-    ensures amount { result ≡ amount_in (price_sum (price_at prices.now)) (cheapest (price_sum (price_at prices.now)) (standingPlans (places_of chart.now) (arcs_of chart.now) (marked standing.now))) }
-    ensures plan { plan.new ≡ written (cheapest (price_sum (price_at prices.now)) (standingPlans (places_of chart.now) (arcs_of chart.now) (marked standing.now))) plan.old }
+    ensures amount { result ≡ amount_in (price_sum (price_at prices.now)) (cheapest (price_sum (price_at prices.now)) (standing_plans (places_of chart.now) (arcs_of chart.now) (marked standing.now))) }
+    ensures plan { plan.new ≡ written (cheapest (price_sum (price_at prices.now)) (standing_plans (places_of chart.now) (arcs_of chart.now) (marked standing.now))) plan.old }
 {
     let _ = chart.places();
     let mut table = [None; 1056];
@@ -56,8 +56,8 @@ pub fn least_plan(
 pub fn first_plan(chart: &Chart, standing: &[bool], plan: &mut [usize]) -> bool
     requires marks { length (arcs_of chart.now) ≤ length standing.now }
     requires room { places_of chart.now ≤ length plan.old }
-    ensures answer { result ≡ is_there (foremost (standingPlans (places_of chart.now) (arcs_of chart.now) (marked standing.now))) }
-    ensures plan { plan.new ≡ written (foremost (standingPlans (places_of chart.now) (arcs_of chart.now) (marked standing.now))) plan.old }
+    ensures answer { result ≡ is_there (foremost (standing_plans (places_of chart.now) (arcs_of chart.now) (marked standing.now))) }
+    ensures plan { plan.new ≡ written (foremost (standing_plans (places_of chart.now) (arcs_of chart.now) (marked standing.now))) plan.old }
 {
     let _ = chart.places();
     let prices = no_prices();

@@ -3,10 +3,10 @@ ghost use Rattle.std.specs.Prelude.{◌≡◌, ℕ, ◌<◌, ◌≤◌, Bool, tr
 ghost use Rattle.plans.specs.Arcs.{arc_at};
 ghost use Rattle.plans.specs.Plans.{cost};
 ghost use Rattle.charts.specs.Drafts.{places_of, arcs_of};
-ghost use Rattle.rules.specs.Rules.{no_rule, counted as countedOf};
-ghost use Rattle.rules.specs.Lawful.{weighed, holds, meets as meetsIn};
+ghost use Rattle.rules.specs.Rules.{no_rule, counted as counted_of};
+ghost use Rattle.rules.specs.Lawful.{weighed, holds, meets as meets_in};
 ghost use Rattle.amounts.specs.Multipliers.{lowest};
-ghost use Rattle.judging.specs.Calls.{stray as strayIn, broken};
+ghost use Rattle.judging.specs.Calls.{stray as stray_in, broken};
 
 use charts::chart::Chart;
 use rules::bank::Bank;
@@ -37,7 +37,7 @@ pub fn cost_of(chart: &Chart, plan: &[usize]) -> u32
 /// The first place whose arc is missing, of another place or unconnected.
 pub fn stray(chart: &Chart, offered: &[usize]) -> Option<u8>
     requires { length offered.now ≤ 32 }
-    ensures { result ≡ strayIn (arcs_of chart.now) 1 0 offered.now }
+    ensures { result ≡ stray_in (arcs_of chart.now) 1 0 offered.now }
 {
     let mut node = 0u8;
     for j in 0..offered.len() {
@@ -58,7 +58,7 @@ pub fn stray(chart: &Chart, offered: &[usize]) -> Option<u8>
 /// The weight of a rule at an arc.
 fn weight_at<B: Bank>(bank: &B, rule: usize, chart: &Chart, number: usize) -> i64
     requires there { number < length (arcs_of chart.now) }
-    requires counted { rule < countedOf (B.Bank.rules bank.now) }
+    requires counted { rule < counted_of (B.Bank.rules bank.now) }
     ensures value { result ≡ (get_or (B.Bank.rules bank.now) rule no_rule).weight (arc_at (arcs_of chart.now) number).place (arc_at (arcs_of chart.now) number).route }
     ensures small { unsigned_abs result ≤ 10000 }
 {
@@ -76,7 +76,7 @@ fn weight_at<B: Bank>(bank: &B, rule: usize, chart: &Chart, number: usize) -> i6
 fn weigh<B: Bank>(bank: &B, rule: usize, chart: &Chart, plan: &[usize]) -> i64
     requires few { length plan.now ≤ 32 }
     requires there { (i : ℕ) → i < length plan.now → slice_index plan.now i < length (arcs_of chart.now) }
-    requires counted { rule < countedOf (B.Bank.rules bank.now) }
+    requires counted { rule < counted_of (B.Bank.rules bank.now) }
     ensures value { result ≡ weighed (arcs_of chart.now) (slice_index_or (B.Bank.rules bank.now) rule no_rule) plan.now }
     ensures small { unsigned_abs result ≤ 320000 }
 {
@@ -89,7 +89,7 @@ fn weigh<B: Bank>(bank: &B, rule: usize, chart: &Chart, plan: &[usize]) -> i64
 
 /// Whether a total meets a sense.
 fn meets(sense: Sense, total: i64) -> bool
-    ensures { result ≡ meetsIn sense total }
+    ensures { result ≡ meets_in sense total }
 {
     match sense {
         Sense::AtMost => total <= 0,
@@ -101,7 +101,7 @@ fn meets(sense: Sense, total: i64) -> bool
 fn breaks<B: Bank>(bank: &B, rule: usize, chart: &Chart, plan: &[usize]) -> bool
     requires few { length plan.now ≤ 32 }
     requires there { (i : ℕ) → i < length plan.now → slice_index plan.now i < length (arcs_of chart.now) }
-    requires counted { rule < countedOf (B.Bank.rules bank.now) }
+    requires counted { rule < counted_of (B.Bank.rules bank.now) }
     ensures { result ≡ not (holds (arcs_of chart.now) plan.now (slice_index_or (B.Bank.rules bank.now) rule no_rule)) }
 {
     let Some(head) = bank.head(rule) else {

@@ -3,7 +3,7 @@ ghost use Rattle.std.specs.Prelude.{◌≡◌, ℕ, ◌*◌, ◌<◌, ◌≤◌,
 ghost use Rattle.charts.specs.Drafts.{places_of};
 ghost use Rattle.plans.specs.Firsts.{foremost, written, is_there};
 ghost use Rattle.judging.specs.Cases.{mark as mark_of, standing_in, first_plan, least, top};
-ghost use Rattle.judging.specs.Calls.{keeping, cheaply, undercut as undercutBy};
+ghost use Rattle.judging.specs.Calls.{keeping, cheaply, undercut as undercut_by};
 ghost use Rattle.through.specs.Pricings.{Priceable};
 ghost use Rattle.casebooks.specs.Views.{problem_of, model_of};
 
@@ -25,7 +25,7 @@ impl Claim {
 
 /// An amount, where it is below the mark.
 fn below(amount: Option<i64>, mark: i64) -> Option<i64>
-    ensures { result ≡ undercutBy mark amount }
+    ensures { result ≡ undercut_by mark amount }
 {
     match amount {
         None => None,
@@ -63,7 +63,7 @@ impl Desk {
     pub fn undercut<B: Bank>(&self, bank: &B, multipliers: &[i64]) -> Option<i64>
         requires asked { Priceable (B.Bank.rules bank.now) multipliers.now }
         requires some { 0 < length (model_of self.now).pile }
-        ensures { result ≡ undercutBy (mark_of (model_of self.now).claimed) (least (problem_of self.now (B.Bank.rules bank.now)) multipliers.now (top (model_of self.now).pile)) }
+        ensures { result ≡ undercut_by (mark_of (model_of self.now).claimed) (least (problem_of self.now (B.Bank.rules bank.now)) multipliers.now (top (model_of self.now).pile)) }
     {
         let _ = self.chart.places();
         let standing = self.working();
