@@ -4,7 +4,7 @@
 
 mod reply;
 
-use crate::reply::Reply;
+use crate::reply::{Answer, Reply};
 use casebooks::casebook::Casebook;
 use charts::chart::{Chart, Draft};
 use rules::bank::Bank;
@@ -16,6 +16,7 @@ use std::io;
 use terms::arc::NewArc;
 use terms::refusal::Refusal;
 use terms::routes::RouteSet;
+use terms::verdict::Verdict;
 
 /// Multipliers for the four rules, in thousandths of a minute: 0 for each.
 const NONE: [i64; 4] = [0, 0, 0, 0];
@@ -30,10 +31,16 @@ const RULE_0_BELOW: [i64; 4] = [-1, 0, 0, 0];
 const RULE_2_BELOW: [i64; 4] = [0, 0, -1, 0];
 
 /// Prints a reply, and a line that says so where another was expected.
-fn report(rt: &impl Print, call: &str, reply: Reply, expected: Reply) -> io::Result<()> {
+fn report(
+    rt: &impl Print,
+    call: &str,
+    reply: Reply,
+    expected: Result<Answer, Refusal>,
+) -> io::Result<()> {
     println!(rt; "{call}: {reply}")?;
-    if reply != expected {
-        println!(rt; "FAILED: expected {expected}")?;
+    let wanted = Reply(expected);
+    if reply != wanted {
+        println!(rt; "FAILED: expected {wanted}")?;
     }
     Ok(())
 }
@@ -59,28 +66,38 @@ fn straight(place: u64, route: u64, minutes: u64) -> NewArc {
     }
 }
 
-/// The number of places accepted.
-fn places_of(res: Result<u64, Refusal>) -> Result<usize, Refusal> {
-    Ok(res? as usize)
-}
-
 /// Two places, and two arcs at each: route 1 or route 2.
 fn drafted(rt: &impl Print) -> io::Result<Draft> {
     let mut draft = Draft::new();
-    let places = places_of(draft.places(2));
-    report(rt, "places 2", Reply::number(places), Reply::Number(2))?;
+    let places = Reply::from(draft.places(2));
+    report(rt, "places 2", places, Ok(Answer::Number(2)))?;
     let first = draft.arc(straight(1, 1, 4));
-    report(rt, "arc 1 0 0 1 4", Reply::number(first), Reply::Number(0))?;
+    report(
+        rt,
+        "arc 1 0 0 1 4",
+        Reply::from(first),
+        Ok(Answer::Number(0)),
+    )?;
     let second = draft.arc(straight(1, 2, 9));
-    report(rt, "arc 1 0 0 2 9", Reply::number(second), Reply::Number(1))?;
+    report(
+        rt,
+        "arc 1 0 0 2 9",
+        Reply::from(second),
+        Ok(Answer::Number(1)),
+    )?;
     let third = draft.arc(straight(2, 1, 3));
-    report(rt, "arc 2 0 0 1 3", Reply::number(third), Reply::Number(2))?;
+    report(
+        rt,
+        "arc 2 0 0 1 3",
+        Reply::from(third),
+        Ok(Answer::Number(2)),
+    )?;
     let fourth = draft.arc(straight(2, 2, 10));
     report(
         rt,
         "arc 2 0 0 2 10",
-        Reply::number(fourth),
-        Reply::Number(3),
+        Reply::from(fourth),
+        Ok(Answer::Number(3)),
     )?;
     Ok(draft)
 }
@@ -88,8 +105,8 @@ fn drafted(rt: &impl Print) -> io::Result<Draft> {
 /// The draft, sealed.
 fn sealed(rt: &impl Print, draft: Draft) -> io::Result<Chart> {
     let chart = draft.seal();
-    let arcs = Reply::Number(chart.count());
-    report(rt, "seal", arcs, Reply::Number(4))?;
+    let arcs = Reply(Ok(Answer::Number(chart.count())));
+    report(rt, "seal", arcs, Ok(Answer::Number(4)))?;
     Ok(chart)
 }
 
@@ -104,8 +121,8 @@ fn set_of(routes: &[u64]) -> RouteSet {
 
 /// Prints how many rules a bank has.
 fn report_rules<B: Bank>(rt: &impl Print, make: &str, bank: &B, expected: usize) -> io::Result<()> {
-    let rules = Reply::Number(bank.count());
-    report(rt, make, rules, Reply::Number(expected))
+    let rules = Reply(Ok(Answer::Number(bank.count())));
+    report(rt, make, rules, Ok(Answer::Number(expected)))
 }
 
 /// Claims, with one case open afterwards.
@@ -115,8 +132,8 @@ fn claim<B: Bank>(
     call: &str,
     minutes: u64,
 ) -> io::Result<()> {
-    let reply = Reply::number(book.claim(minutes));
-    report(rt, call, reply, Reply::Number(1))
+    let reply = Reply::from(book.claim(minutes));
+    report(rt, call, reply, Ok(Answer::Number(1)))
 }
 
 /// Prices, and prints the amount and the plan.
@@ -129,8 +146,8 @@ fn price<B: Bank>(
     expected: [usize; 2],
 ) -> io::Result<()> {
     let mut plan = [9usize; 2];
-    let reply = Reply::amount(book.price(multipliers, &mut plan));
-    report(rt, call, reply, Reply::Amount(amount))?;
+    let reply = Reply::from(book.price(multipliers, &mut plan));
+    report(rt, call, reply, Ok(Answer::Amount(amount)))?;
     report_plan(rt, plan, expected)
 }
 
@@ -140,9 +157,9 @@ fn close<B: Bank>(
     book: &mut Casebook<B>,
     call: &str,
     multipliers: &[i64],
-    expected: Reply,
+    expected: Result<Answer, Refusal>,
 ) -> io::Result<()> {
-    let reply = Reply::number(book.close(multipliers));
+    let reply = Reply::from(book.close(multipliers));
     report(rt, call, reply, expected)
 }
 
@@ -154,8 +171,8 @@ fn strike<B: Bank>(
     multipliers: &[i64],
     expected: usize,
 ) -> io::Result<()> {
-    let reply = Reply::number(book.strike(multipliers));
-    report(rt, call, reply, Reply::Number(expected))
+    let reply = Reply::from(book.strike(multipliers));
+    report(rt, call, reply, Ok(Answer::Number(expected)))
 }
 
 /// Offers a plan of two arcs.
@@ -164,52 +181,52 @@ fn offer<B: Bank>(
     book: &mut Casebook<B>,
     call: &str,
     arcs: [usize; 2],
-    expected: Reply,
+    expected: Result<Answer, Refusal>,
 ) -> io::Result<()> {
-    let reply = Reply::cost(book.offer(&arcs));
+    let reply = Reply::from(book.offer(&arcs));
     report(rt, call, reply, expected)
 }
 
 /// Prints the verdict.
-fn verdict<B: Bank>(rt: &impl Print, book: &Casebook<B>, expected: Reply) -> io::Result<()> {
-    let reply = Reply::verdict(book.verdict());
-    report(rt, "verdict", reply, expected)
+fn verdict<B: Bank>(rt: &impl Print, book: &Casebook<B>, expected: Verdict) -> io::Result<()> {
+    let reply = Reply::from(book.verdict());
+    report(rt, "verdict", reply, Ok(Answer::Said(expected)))
 }
 
 /// Claim 12 does not close without multipliers; it does with one, and the offer of a plan of 12 minutes makes it best.
 fn judge<B: Bank>(rt: &impl Print, book: &mut Casebook<B>) -> io::Result<()> {
     claim(rt, book, "claim 12", 12)?;
     price(rt, book, "price", &NONE, 7000, [0, 2])?;
-    close(rt, book, "close", &NONE, Reply::Refused(23, 7000))?;
+    close(rt, book, "close", &NONE, Err(Refusal::NotClosed(7000)))?;
     close(
         rt,
         book,
         "close, 5000 for rule 0",
         &RULE_0,
-        Reply::Number(0),
+        Ok(Answer::Number(0)),
     )?;
-    offer(rt, book, "offer 1 2", [1, 2], Reply::Number(12))?;
-    verdict(rt, book, Reply::Best)
+    offer(rt, book, "offer 1 2", [1, 2], Ok(Answer::Number(12)))?;
+    verdict(rt, book, Verdict::Best)
 }
 
 /// With 5,000 for rule 0 the least amount is 12,000, of a plan that is not lawful. Claim 12 closes by it, claim 13 does not.
 fn try_prices<B: Bank>(rt: &impl Print, book: &mut Casebook<B>) -> io::Result<()> {
     claim(rt, book, "claim 12", 12)?;
     price(rt, book, "price, 5000 for rule 0", &RULE_0, 12_000, [0, 2])?;
-    offer(rt, book, "offer 0 2", [0, 2], Reply::Refused(21, 0))?;
+    offer(rt, book, "offer 0 2", [0, 2], Err(Refusal::BreaksRule(0)))?;
     close(
         rt,
         book,
         "close, 5000 for rule 0",
         &RULE_0,
-        Reply::Number(0),
+        Ok(Answer::Number(0)),
     )?;
     close(
         rt,
         book,
         "close, 5000 for rule 0",
         &RULE_0,
-        Reply::Refused(14, 0),
+        Err(Refusal::NoCase),
     )?;
     claim(rt, book, "claim 13", 13)?;
     close(
@@ -217,7 +234,7 @@ fn try_prices<B: Bank>(rt: &impl Print, book: &mut Casebook<B>) -> io::Result<()
         book,
         "close, 5000 for rule 0",
         &RULE_0,
-        Reply::Refused(23, 12_000),
+        Err(Refusal::NotClosed(12_000)),
     )
 }
 
@@ -228,15 +245,15 @@ fn try_strikes<B: Bank>(rt: &impl Print, book: &mut Casebook<B>) -> io::Result<(
     claim(rt, book, "claim 15", 15)?;
     strike(rt, book, "strike, 5000 for rule 0", &RULE_0, 0)?;
     claim(rt, book, "claim 7", 7)?;
-    let trimmed = Reply::number(book.trim());
-    report(rt, "trim", trimmed, Reply::Number(0))?;
+    let trimmed = Reply::from(book.trim());
+    report(rt, "trim", trimmed, Ok(Answer::Number(0)))?;
     let mut plan = [9usize; 2];
-    let sampled = Reply::sample(book.sample(&mut plan));
-    report(rt, "sample", sampled, Reply::Found)?;
+    let sampled = Reply::from(book.sample(&mut plan));
+    report(rt, "sample", sampled, Ok(Answer::Found))?;
     report_plan(rt, plan, [0, 2])?;
     strike(rt, book, "strike", &NONE, 4)?;
-    let emptied = Reply::sample(book.sample(&mut plan));
-    report(rt, "sample", emptied, Reply::NoPlan)
+    let emptied = Reply::from(book.sample(&mut plan));
+    report(rt, "sample", emptied, Ok(Answer::NoPlan))
 }
 
 /// An exactly rule takes a multiplier below 0, an at most rule does not.
@@ -251,27 +268,37 @@ fn try_signs<B: Bank>(rt: &impl Print, book: &mut Casebook<B>) -> io::Result<()>
         [0, 2],
     )?;
     let mut plan = [9usize; 2];
-    let refused = Reply::amount(book.price(&RULE_2_BELOW, &mut plan));
-    report(rt, "price, -1 for rule 2", refused, Reply::Refused(13, 2))?;
+    let refused = Reply::from(book.price(&RULE_2_BELOW, &mut plan));
+    report(
+        rt,
+        "price, -1 for rule 2",
+        refused,
+        Err(Refusal::MultiplierRange(2)),
+    )?;
     report_plan(rt, plan, [9, 9])
 }
 
 /// A split has an arc on either side of its set, or is refused. Each side is closed on its own.
 fn try_splits<B: Bank>(rt: &impl Print, book: &mut Casebook<B>) -> io::Result<()> {
-    let all = Reply::number(book.split(1, set_of(&[1, 2])));
-    report(rt, "split at place 1 by {1, 2}", all, Reply::Refused(16, 0))?;
-    let one = Reply::number(book.split(1, set_of(&[1])));
-    report(rt, "split at place 1 by {1}", one, Reply::Number(2))?;
-    verdict(rt, book, Reply::Open)?;
+    let all = Reply::from(book.split(1, set_of(&[1, 2])));
+    report(
+        rt,
+        "split at place 1 by {1, 2}",
+        all,
+        Err(Refusal::OneSided),
+    )?;
+    let one = Reply::from(book.split(1, set_of(&[1])));
+    report(rt, "split at place 1 by {1}", one, Ok(Answer::Number(2)))?;
+    verdict(rt, book, Verdict::Open)?;
     close(
         rt,
         book,
         "close, 5000 for rule 0",
         &RULE_0,
-        Reply::Number(1),
+        Ok(Answer::Number(1)),
     )?;
-    close(rt, book, "close", &NONE, Reply::Number(0))?;
-    verdict(rt, book, Reply::Best)
+    close(rt, book, "close", &NONE, Ok(Answer::Number(0)))?;
+    verdict(rt, book, Verdict::Best)
 }
 
 /// All edges on one casebook; each claim begins with every arc again, and the plan held stays.

@@ -3,9 +3,9 @@ use std::fmt;
 use terms::refusal::Refusal;
 use terms::verdict::Verdict;
 
-/// A reply: an answer, or a refusal by its number and value.
-#[derive(Clone, Copy, PartialEq, Eq, Drop)]
-pub enum Reply {
+/// What an accepted call answers.
+#[derive(Clone, Copy, PartialEq, Eq)]
+pub enum Answer {
     /// A number of cases, arcs, rules or minutes.
     Number(usize),
     /// A priced amount.
@@ -14,76 +14,73 @@ pub enum Reply {
     Found,
     /// No plan stands.
     NoPlan,
-    Open,
-    Proved,
-    Best,
-    Refuted,
-    Refused(u8, i64),
+    /// What is said of the claim.
+    Said(Verdict),
 }
 
-impl Reply {
-    fn refused(refusal: Refusal) -> Reply {
-        let (number, value) = refusal.number();
-        Reply::Refused(number, value)
-    }
+/// An answer, or why there is none.
+#[derive(Clone, Copy, PartialEq, Eq)]
+pub struct Reply(pub Result<Answer, Refusal>);
 
-    /// Of a call that answers how many.
-    pub fn number(res: Result<usize, Refusal>) -> Reply {
-        match res {
-            Ok(number) => Reply::Number(number),
-            Err(refusal) => Reply::refused(refusal),
-        }
+/// Of a call that answers how many.
+impl From<Result<usize, Refusal>> for Reply {
+    fn from(res: Result<usize, Refusal>) -> Reply {
+        Reply(res.map(Answer::Number))
     }
+}
 
-    /// Of a price.
-    pub fn amount(res: Result<Option<i64>, Refusal>) -> Reply {
-        match res {
-            Ok(Some(amount)) => Reply::Amount(amount),
-            Ok(None) => Reply::NoPlan,
-            Err(refusal) => Reply::refused(refusal),
-        }
+/// Of the number of places.
+impl From<Result<u64, Refusal>> for Reply {
+    fn from(res: Result<u64, Refusal>) -> Reply {
+        Reply(res.map(|places| Answer::Number(places as usize)))
     }
+}
 
-    /// Of a sample.
-    pub fn sample(res: Result<bool, Refusal>) -> Reply {
-        match res {
-            Ok(true) => Reply::Found,
-            Ok(false) => Reply::NoPlan,
-            Err(refusal) => Reply::refused(refusal),
-        }
+/// Of an offer.
+impl From<Result<u32, Refusal>> for Reply {
+    fn from(res: Result<u32, Refusal>) -> Reply {
+        Reply(res.map(|minutes| Answer::Number(minutes as usize)))
     }
+}
 
-    /// Of an offer.
-    pub fn cost(res: Result<u32, Refusal>) -> Reply {
-        match res {
-            Ok(minutes) => Reply::Number(minutes as usize),
-            Err(refusal) => Reply::refused(refusal),
-        }
+/// Of a price.
+impl From<Result<Option<i64>, Refusal>> for Reply {
+    fn from(res: Result<Option<i64>, Refusal>) -> Reply {
+        Reply(res.map(|least| least.map_or(Answer::NoPlan, Answer::Amount)))
     }
+}
 
-    /// Of a verdict.
-    pub fn verdict(verdict: Verdict) -> Reply {
-        match verdict {
-            Verdict::Open => Reply::Open,
-            Verdict::Proved => Reply::Proved,
-            Verdict::Best => Reply::Best,
-            Verdict::Refuted => Reply::Refuted,
+/// Of a sample.
+impl From<Result<bool, Refusal>> for Reply {
+    fn from(res: Result<bool, Refusal>) -> Reply {
+        Reply(res.map(|found| if found { Answer::Found } else { Answer::NoPlan }))
+    }
+}
+
+/// Of a verdict.
+impl From<Verdict> for Reply {
+    fn from(verdict: Verdict) -> Reply {
+        Reply(Ok(Answer::Said(verdict)))
+    }
+}
+
+impl fmt::Display for Answer {
+    fn fmt<W: fmt::Write>(&self, f: &mut fmt::Formatter<W>) -> fmt::Result {
+        match self {
+            Answer::Number(number) => write!(f, "ok {number}"),
+            Answer::Amount(amount) => write!(f, "ok {amount}"),
+            Answer::Found => write!(f, "ok"),
+            Answer::NoPlan => write!(f, "ok none"),
+            Answer::Said(verdict) => write!(f, "ok {verdict}"),
         }
     }
 }
 
 impl fmt::Display for Reply {
     fn fmt<W: fmt::Write>(&self, f: &mut fmt::Formatter<W>) -> fmt::Result {
-        match *self {
-            Reply::Number(number) => write!(f, "ok {number}"),
-            Reply::Amount(amount) => write!(f, "ok {amount}"),
-            Reply::Found => write!(f, "ok"),
-            Reply::NoPlan => write!(f, "ok none"),
-            Reply::Open => write!(f, "ok open"),
-            Reply::Proved => write!(f, "ok proved"),
-            Reply::Best => write!(f, "ok best"),
-            Reply::Refuted => write!(f, "ok refuted"),
-            Reply::Refused(number, value) => write!(f, "no {number} {value}"),
+        match self.0 {
+            Ok(answer) => write!(f, "{answer}"),
+            Err(refusal) => write!(f, "no {refusal}"),
         }
     }
 }

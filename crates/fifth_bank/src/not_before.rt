@@ -33,22 +33,14 @@ impl Bank for NotBefore {
     }
 
     fn head(&self, rule: usize) -> Option<Head> {
-        if rule >= self.count() {
-            return None;
-        }
-        Some(Head {
+        (rule < self.count()).then_some(Head {
             sense: Sense::AtMost,
             limit: 0,
         })
     }
 
     fn weight(&self, rule: usize, place: u64, route: u64) -> Option<i64> {
-        if rule >= self.count() {
-            return None;
-        }
-        if !on_grid(place, route) {
-            return None;
-        }
-        Some(weighs(*self, place, route))
+        let asked = rule < self.count() && on_grid(place, route);
+        asked.then(|| weighs(*self, place, route))
     }
 }

@@ -32,18 +32,12 @@ fn drafted() -> Result<Chart, Refusal> {
 }
 
 fn chart() -> Result<Chart, Fail> {
-    match drafted() {
-        Ok(chart) => Ok(chart),
-        Err(_) => Err(Fail::new("the chart was refused")),
-    }
+    drafted().map_err(|_| Fail::new("the chart was refused"))
 }
 
-/// The number and the value of a refusal, and 0 and 0 where there is none.
-fn refused<T: Drop>(res: Result<T, Refusal>) -> (u8, i64) {
-    match res {
-        Ok(_) => (0, 0),
-        Err(refusal) => refusal.number(),
-    }
+/// The number and the value of a refusal, if there is one.
+fn refused<T: Drop>(res: Result<T, Refusal>) -> Option<(u8, i64)> {
+    res.err().map(Refusal::number)
 }
 
 #[test]
@@ -59,21 +53,21 @@ fn weighs_before_the_place(rt: HostRuntime) {
 #[test]
 fn proves_a_claim(rt: HostRuntime) -> Result<(), Fail> {
     let held = settled(chart()?, BANK, 12, &[5000]);
-    assert!(rt; matches!(held, Verdict::Proved), "claim 12 closes by 5,000");
+    assert_eq!(rt; held, Verdict::Proved, "claim 12 closes by 5,000");
     let open = settled(chart()?, BANK, 13, &[5000]);
-    assert!(rt; matches!(open, Verdict::Open), "claim 13 does not");
+    assert_eq!(rt; open, Verdict::Open, "claim 13 does not");
     Ok(())
 }
 
 #[test]
 fn judges_offers(rt: HostRuntime) -> Result<(), Fail> {
     let mut book = Casebook::open(chart()?, BANK);
-    assert_eq!(rt; refused(book.claim(12)), (0, 0));
-    assert_eq!(rt; refused(book.close(&[])), (12, 0));
-    assert_eq!(rt; refused(book.close(&[-1])), (13, 0));
-    assert_eq!(rt; refused(book.close(&[5000])), (0, 0));
-    assert_eq!(rt; refused(book.offer(&[0, 2])), (21, 0));
-    assert_eq!(rt; refused(book.offer(&[1, 2])), (0, 0));
-    assert!(rt; matches!(book.verdict(), Verdict::Best));
+    assert_eq!(rt; refused(book.claim(12)), None);
+    assert_eq!(rt; refused(book.close(&[])), Some((12, 0)));
+    assert_eq!(rt; refused(book.close(&[-1])), Some((13, 0)));
+    assert_eq!(rt; refused(book.close(&[5000])), None);
+    assert_eq!(rt; refused(book.offer(&[0, 2])), Some((21, 0)));
+    assert_eq!(rt; refused(book.offer(&[1, 2])), None);
+    assert_eq!(rt; book.verdict(), Verdict::Best);
     Ok(())
 }

@@ -40,7 +40,7 @@ fn hop(place: u64, start: u64, end: u64, route: u64, minutes: u64) -> NewArc {
 fn large_chart() -> Result<Chart, Refusal> {
     let mut draft = Draft::new();
     draft.places(32)?;
-    for place in 1..33u64 {
+    for place in 1..=32u64 {
         for i in 0..32u64 {
             draft.arc(large_arc(place, i))?;
         }
@@ -65,10 +65,7 @@ fn large_arc(place: u64, i: u64) -> NewArc {
 fn report(rt: &impl Print, name: &str, drafted: Result<Chart, Refusal>) -> io::Result<()> {
     let chart = match drafted {
         Ok(chart) => chart,
-        Err(refusal) => {
-            let (number, value) = refusal.number();
-            return println!(rt; "{name}: refused {number} {value}");
-        }
+        Err(refusal) => return println!(rt; "{name}: refused {refusal}"),
     };
     let places = chart.places();
     let arcs = chart.count();
@@ -77,17 +74,13 @@ fn report(rt: &impl Print, name: &str, drafted: Result<Chart, Refusal>) -> io::R
     match least_minutes(&chart, &mut plan) {
         Ok(Some(minutes)) => {
             print!(rt; "least minutes {minutes}, first by arcs")?;
-            for i in 0..places as usize {
-                let arc = plan[i];
+            for arc in &plan[..usize::from(places)] {
                 print!(rt; " {arc}")?;
             }
             println!(rt; "")
         }
         Ok(None) => println!(rt; "no plan"),
-        Err(refusal) => {
-            let (number, value) = refusal.number();
-            println!(rt; "refused {number} {value}")
-        }
+        Err(refusal) => println!(rt; "refused {refusal}"),
     }
 }
 
@@ -121,10 +114,7 @@ fn report_price(rt: &impl Print, name: &str, drafted: Result<Chart, Refusal>) ->
             )
         }
         Ok(None) => println!(rt; "{name} with 5000 for rule 0: no plan"),
-        Err(refusal) => {
-            let (number, value) = refusal.number();
-            println!(rt; "{name} with 5000 for rule 0: refused {number} {value}")
-        }
+        Err(refusal) => println!(rt; "{name} with 5000 for rule 0: refused {refusal}"),
     }
 }
 
