@@ -18,7 +18,8 @@ impl Priced<'_> {
         ensures { Picked T.Tally (places_of self.now.chart.now) (arcs_of self.now.chart.now) (marked self.now.standing.now) (price_at self.now.prices.now) place node result }
     {
         let whole = table[32 * (place - 1) + node];
-        for (i, arc) in self.chart.arcs().iter().enumerate() {
+        let arcs = self.chart.arcs();
+        for (i, arc) in arcs.iter().enumerate() {
             if self.standing[i]
                 && usize::from(arc.place) == place
                 && usize::from(arc.start) == node

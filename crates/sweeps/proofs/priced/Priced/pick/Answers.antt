@@ -25,7 +25,7 @@ extend-part-requires g c =
     let k = c.args.place in
     let i = c.loop-i.i in
     let e = (arc_at arcs i).end in
-    let same = c.arcs-arc-items.ensures in
+    let same = c.arcs-arcs.ensures in
     let there : i < length arcs = omega (arith, ap length same) in
     let place : (arc_at arcs i).place ≡ k = let a = c.from.ensures in let b = c.if-from-place.true in cc in
     let start : (arc_at arcs i).start ≡ c.args.node = let a = c.from-then-from-place.ensures in let b = c.if-from-node.true in cc in
@@ -53,7 +53,7 @@ returns-then-first g c =
     let table = c.args.table.now in
     let i = c.loop-i.i in
     let e = (arc_at arcs i).end in
-    let same = c.arcs-arc-items.ensures in
+    let same = c.arcs-arcs.ensures in
     let there : i < length arcs = omega (arith, ap length same) in
     let place : (arc_at arcs i).place ≡ k = let a = c.from.ensures in let b = c.if-from-place.true in cc in
     let start : (arc_at arcs i).start ≡ v = let a = c.from-then-from-place.ensures in let b = c.if-from-node.true in cc in
@@ -84,7 +84,7 @@ loop-i-preserved g c =
     let table = c.args.table.now in
     let i = c.loop-i.i in
     let e = (arc_at arcs i).end in
-    let same = c.arcs-arc-items.ensures in
+    let same = c.arcs-arcs.ensures in
     below_more _ _ c.loop-i.invariant (λ a.
     let both = and_parts (s i) (next arcs k v i) a.0 in
     elim c.if-self-i.branch [
