@@ -1,55 +1,44 @@
 //! The first plan with the least sum of prices, the first plan, and the least minutes of a chart.
-ghost use Rattle.std.specs.Prelude.{◌≡◌, ℕ, ◌<◌, ◌≤◌, true, false, length, pos, slice_index_or};
+ghost use Rattle.std.specs.Prelude.{◌≡◌, ℕ, ◌<◌, ◌≤◌, Bool, length, pos, slice_index_or};
 ghost use Rattle.plans.specs.Arcs.{arc_at};
 ghost use Rattle.plans.specs.Plans.{cost};
 ghost use Rattle.plans.specs.Cases.{standing as standing_plans};
 ghost use Rattle.plans.specs.Firsts.{foremost, cheapest, amount_in, written, is_there};
 ghost use Rattle.charts.specs.Drafts.{places_of, arcs_of};
-ghost use Rattle.ways.specs.Amounts.{marked, price_at, Sweepable};
+ghost use Rattle.ways.specs.Amounts.{marked, price_at, backward_amount};
 ghost use Rattle.ways.specs.Minutes.{cheapest_plan, on_minutes};
 ghost use Rattle.ways.specs.Sums.{price_sum};
+ghost use Rattle.ways.specs.Traces.{Outcome};
 
-use super::sweep::backward;
-use super::trace::trace;
+use super::priced::Priced;
 use charts::chart::Chart;
 use tallies::kinds::{Least, Reach};
+use tallies::tally::Choosing;
 use terms::arc::Arc;
 use terms::refusal::Refusal;
 
-/// A price of 0 for each arc.
-fn no_prices() -> [i64; 1024]
-    ensures long { length result ≡ 1024 }
-    ensures each { (a : ℕ) → slice_index_or result a (pos 0) ≡ pos 0 }
-{
-    [0; 1024]
-}
+impl Priced<'_> {
+    /// The joining over all standing plans, for which the table is lent; writes the plan that attains it.
+    fn attain<T: Choosing>(&self, table: &mut [T::Amount], plan: &mut [usize]) -> T::Amount
+        requires long { length table.old ≡ 1056 }
+        requires room { places_of self.now.chart.now ≤ length plan.old }
+        ensures amount { result ≡ backward_amount T.Tally (places_of self.now.chart.now) (arcs_of self.now.chart.now) (marked self.now.standing.now) (price_at self.now.prices.now) 1 0 }
+        ensures plan { (found : Bool) × Outcome T.Tally (places_of self.now.chart.now) (arcs_of self.now.chart.now) (marked self.now.standing.now) (price_at self.now.prices.now) plan.old plan.new found }
+    {
+        self.backward::<T>(table);
+        self.trace::<T>(table, plan);
+        table[0]
+    }
 
-/// A mark for each arc.
-fn all_marks() -> [bool; 1024]
-    ensures long { length result ≡ 1024 }
-    ensures each { (a : ℕ) → a < 1024 → slice_index_or result a false ≡ true }
-{
-    [true; 1024]
-}
-
-/// The least sum of prices over the standing plans, if any stands; writes the first plan with that sum into the
-/// first places of the buffer.
-pub fn least_plan(
-    chart: &Chart,
-    standing: &[bool],
-    prices: &[i64],
-    plan: &mut [usize],
-) -> Option<i64>
-    requires fit { Sweepable (arcs_of chart.now) standing.now prices.now }
-    requires room { places_of chart.now ≤ length plan.old }
-    ensures amount { result ≡ amount_in (price_sum (price_at prices.now)) (cheapest (price_sum (price_at prices.now)) (standing_plans (places_of chart.now) (arcs_of chart.now) (marked standing.now))) }
-    ensures plan { plan.new ≡ written (cheapest (price_sum (price_at prices.now)) (standing_plans (places_of chart.now) (arcs_of chart.now) (marked standing.now))) plan.old }
-{
-    let _ = chart.places();
-    let mut table = [None; 1056];
-    backward::<Least>(chart, standing, prices, &mut table);
-    trace::<Least>(chart, standing, prices, &table, plan);
-    table[0]
+    /// The least sum of prices over the standing plans, if any stands; writes the first plan with that sum into the
+    /// first places of the buffer.
+    pub fn least_plan(&self, plan: &mut [usize]) -> Option<i64>
+        requires { places_of self.now.chart.now ≤ length plan.old }
+        ensures amount { result ≡ amount_in (price_sum (price_at self.now.prices.now)) (cheapest (price_sum (price_at self.now.prices.now)) (standing_plans (places_of self.now.chart.now) (arcs_of self.now.chart.now) (marked self.now.standing.now))) }
+        ensures plan { plan.new ≡ written (cheapest (price_sum (price_at self.now.prices.now)) (standing_plans (places_of self.now.chart.now) (arcs_of self.now.chart.now) (marked self.now.standing.now))) plan.old }
+    {
+        self.attain::<Least>(&mut [None; 1056], plan)
+    }
 }
 
 /// Whether a plan stands; writes the first that does into the first places of the buffer.
@@ -59,22 +48,26 @@ pub fn first_plan(chart: &Chart, standing: &[bool], plan: &mut [usize]) -> bool
     ensures answer { result ≡ is_there (foremost (standing_plans (places_of chart.now) (arcs_of chart.now) (marked standing.now))) }
     ensures plan { plan.new ≡ written (foremost (standing_plans (places_of chart.now) (arcs_of chart.now) (marked standing.now))) plan.old }
 {
-    let _ = chart.places();
-    let prices = no_prices();
-    let mut table = [false; 1056];
-    backward::<Reach>(chart, standing, &prices, &mut table);
-    trace::<Reach>(chart, standing, &prices, &table, plan)
+    let priced = Priced {
+        chart,
+        standing,
+        prices: &[0; 1024],
+    };
+    priced.attain::<Reach>(&mut [false; 1056], plan)
 }
 
-/// Writes each arc's minutes as its price.
-fn by_minutes(arcs: &[Arc], prices: &mut [i64])
-    requires { length arcs.now ≤ length prices.old }
-    ensures each { (i : ℕ) → i < length arcs.now → slice_index_or prices.new i (pos 0) ≡ pos (arc_at arcs.now i).minutes }
-    ensures rest { (i : ℕ) → length arcs.now ≤ i → slice_index_or prices.new i (pos 0) ≡ slice_index_or prices.old i (pos 0) }
+/// Each arc's minutes as its price.
+fn by_minutes(arcs: &[Arc]) -> [i64; 1024]
+    requires { length arcs.now ≤ 1024 }
+    ensures long { length result ≡ 1024 }
+    ensures each { (i : ℕ) → i < length arcs.now → slice_index_or result i (pos 0) ≡ pos (arc_at arcs.now i).minutes }
+    ensures rest { (i : ℕ) → length arcs.now ≤ i → slice_index_or result i (pos 0) ≡ pos 0 }
 {
-    for i in 0..arcs.len() {
-        prices[i] = i64::from(arcs[i].minutes);
+    let mut prices = [0; 1024];
+    for (i, arc) in arcs.iter().enumerate() {
+        prices[i] = i64::from(arc.minutes);
     }
+    prices
 }
 
 /// The least minutes of a chart's plans, if it has any; writes the first plan with that cost.
@@ -83,11 +76,13 @@ fn cheapest_plan(chart: &Chart, plan: &mut [usize]) -> Option<i64>
     ensures amount { result ≡ amount_in (λ p. pos (cost (arcs_of chart.now) p)) (cheapest_plan (places_of chart.now) (arcs_of chart.now)) }
     ensures plan { plan.new ≡ written (cheapest_plan (places_of chart.now) (arcs_of chart.now)) plan.old }
 {
-    let _ = chart.places();
-    let mut prices = no_prices();
-    let standing = all_marks();
-    by_minutes(chart.arcs(), &mut prices);
-    least_plan(chart, &standing, &prices, plan)
+    let prices = by_minutes(chart.arcs());
+    let priced = Priced {
+        chart,
+        standing: &[true; 1024],
+        prices: &prices,
+    };
+    priced.least_plan(plan)
 }
 
 /// The least minutes of a chart's plans, if it has any; writes the first plan with that cost into the first places
@@ -96,11 +91,8 @@ pub fn least_minutes(chart: &Chart, plan: &mut [usize]) -> Result<Option<u64>, R
     ensures reply { result ≡ (on_minutes (places_of chart.now) (arcs_of chart.now) plan.old).answer }
     ensures left { plan.new ≡ (on_minutes (places_of chart.now) (arcs_of chart.now) plan.old).left }
 {
-    if plan.len() < chart.places() as usize {
+    if plan.len() < usize::from(chart.places()) {
         return Err(Refusal::ShortBuffer);
     }
-    match cheapest_plan(chart, plan) {
-        None => Ok(None),
-        Some(minutes) => Ok(Some(minutes as u64)),
-    }
+    Ok(cheapest_plan(chart, plan).map(|minutes| minutes.unsigned_abs()))
 }

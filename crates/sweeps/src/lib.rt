@@ -2,5 +2,6 @@
 #![tactic(auto)]
 
 pub mod least;
+pub mod priced;
 pub mod sweep;
 pub mod trace;

@@ -15,9 +15,9 @@ use Rattle.ways.specs.Sums.{price_sum}
 use Rattle.ways.specs.Minutes.{cheapest_plan, cost_in}
 
 -- minutes, and 0 past the arcs, are small prices
-pub minutes_small : (arcs : List Arc) (n : ℕ) → Sealed n arcs → (prices old : List ℤ) → ((a : ℕ) → get_or old a (pos 0) ≡ pos 0) → ((a : ℕ) → a < length arcs → get_or prices a (pos 0) ≡ pos (arc_at arcs a).minutes) → ((a : ℕ) → length arcs ≤ a → get_or prices a (pos 0) ≡ get_or old a (pos 0)) → (a : ℕ) → nat_abs (get_or prices a (pos 0)) ≤ steep
-minutes_small arcs n sealed prices old zero' each rest a =
-    ⊎_elim (λ (l : a < length arcs). subst (λ z. nat_abs z ≤ steep) (sym (each a l)) (omega (arith, (sealed.arc a l).ranged.1))) (λ (l : length arcs ≤ a). subst (λ z. nat_abs z ≤ steep) (sym (rest a l ∙ zero' a)) (omega arith)) (cases_lt a (length arcs))
+pub minutes_small : (arcs : List Arc) (n : ℕ) → Sealed n arcs → (prices : List ℤ) → ((a : ℕ) → a < length arcs → get_or prices a (pos 0) ≡ pos (arc_at arcs a).minutes) → ((a : ℕ) → length arcs ≤ a → get_or prices a (pos 0) ≡ pos 0) → (a : ℕ) → nat_abs (get_or prices a (pos 0)) ≤ steep
+minutes_small arcs n sealed prices each rest a =
+    ⊎_elim (λ (l : a < length arcs). subst (λ z. nat_abs z ≤ steep) (sym (each a l)) (omega (arith, (sealed.arc a l).ranged.1))) (λ (l : length arcs ≤ a). subst (λ z. nat_abs z ≤ steep) (sym (rest a l)) (omega arith)) (cases_lt a (length arcs))
 
 -- two amounts that agree on a list have the same cheapest plan there
 lesser_same : (f g : List ℕ → ℤ) (p : List ℕ) (o : Option (List ℕ)) → f p ≡ g p → ((q : List ℕ) → o ≡ Some q → f q ≡ g q) → lesser f p o ≡ lesser g p o

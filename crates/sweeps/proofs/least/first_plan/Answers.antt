@@ -1,34 +1,15 @@
-use Rattle.std.proofs.Common.{◌≡◌, ℕ, ◌≤◌, pos, nat_abs, sym, refl, subst, arith}
+use Rattle.std.proofs.Common.{◌∙◌, replicate, pos}
 use Rattle.charts.specs.Drafts.{places_of, arcs_of}
-use Rattle.tallies.specs.Laws.{steep}
+use Rattle.charts.proofs.Tables.{sealed}
 use Rattle.ways.specs.Amounts.{marked, price_at}
-use Rattle.ways.proofs.Writes.{reach_wrote, reach_answer}
+use Rattle.ways.proofs.Firsts.{reach_standing}
+use Rattle.ways.proofs.Writes.{reach_wrote}
+use Rattle.sweeps.proofs.Alike.{unpriced}
 use Rattle.sweeps.proofs.least.first_plan.Goals as goal
 
--- a price of 0 is small
-flat : (x : lib.IntN.ℤ) → x ≡ pos 0 → nat_abs x ≤ steep
-flat x e = subst (λ z. nat_abs z ≤ steep) (sym e) (omega arith)
-
-pub backward-requires : goal.backward-requires
-backward-requires c = record {
-  fit = record {
-    marks = c.requires.marks;
-    priced = omega (arith, c.places.ensures.sealed.count, c.no_prices-prices.ensures.long);
-    small = λ a. flat _ (c.no_prices-prices.ensures.each a);
-  };
-  long = refl;
-}
-
-pub trace-requires : goal.trace-requires
-trace-requires c = record {
-  fit = record {
-    marks = c.requires.marks;
-    priced = omega (arith, c.places.ensures.sealed.count, c.no_prices-prices.ensures.long);
-    small = λ a. flat _ (c.no_prices-prices.ensures.each a);
-  };
-  filled = c.backward.ensures;
-  long = c.backward.auto.out;
-  room = c.requires.room;
+pub invariant_of-priced : goal.invariant_of-priced
+invariant_of-priced c = record {
+  fit = unpriced (arcs_of c.args.chart.now) c.args.standing.now 1024 c.requires.marks (sealed c.args.chart.now).count;
 }
 
 pub returns : goal.returns
@@ -36,10 +17,10 @@ returns c =
     let n = places_of c.args.chart.now in
     let arcs = arcs_of c.args.chart.now in
     let s = marked c.args.standing.now in
-    let price = price_at c.no_prices-prices.result in
-    let sealed = c.places.ensures.sealed in
-    let small : (a : ℕ) → nat_abs (price a) ≤ steep = λ a. flat _ (c.no_prices-prices.ensures.each a) in
+    let whole = sealed c.args.chart.now in
+    let price = price_at (replicate 1024 (pos 0)) in
+    let small = (unpriced arcs c.args.standing.now 1024 c.requires.marks whole.count).small in
     record {
-      answer = reach_answer n arcs sealed s price small c.args.plan.now c.trace.new.plan c.trace.result c.trace.ensures;
-      plan = reach_wrote n arcs sealed s price small c.args.plan.now c.trace.new.plan c.trace.result c.trace.ensures;
+      answer = c.attain.ensures.amount ∙ reach_standing price n arcs s;
+      plan = reach_wrote n arcs whole s price small c.args.plan.now c.attain.new.plan c.attain.ensures.plan.0 c.attain.ensures.plan.1;
     }

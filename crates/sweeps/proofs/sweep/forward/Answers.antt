@@ -1,5 +1,0 @@
-use Rattle.ways.proofs.Turns.{forward_table}
-use Rattle.sweeps.proofs.sweep.forward.Goals as goal
-
-pub returns : goal.returns
-returns g c = forward_table g.T.Tally _ _ _ _ _ c.sweep.ensures.filled
