@@ -1,5 +1,7 @@
 -- An offered plan, arc by arc. Assumes nothing.
 use Rattle.std.proofs.Common.{◌≡◌, ℕ, zero, suc, ◌+◌, ◌<◌, ◌≤◌, Bool, true, false, cond, ltb, List, [], ◌∷◌, ◌++◌, length, get_or, take, drop, ℤ, pos, ◌+ℤ◌, ◌-ℤ◌, neg_ℤ, nat_abs, Some, None, sym, refl, ap, ◌∙◌, subst, add-one, arith, w64, SFits, to_z, of_z}
+use Rattle.std.specs.List.{sum_by}
+use Rattle.std.proofs.lemmas.List.Sums.{sum_by-cons}
 use Rattle.std.proofs.lemmas.List.{take_more, drop_more, drop_all}
 use Rattle.terms.specs.declared.arc.Arc.{Arc}
 use Rattle.plans.specs.Arcs.{arc_at}
@@ -12,13 +14,10 @@ use Rattle.amounts.proofs.Sizes.{fits, add_size, neg_size}
 use Rattle.charts.specs.Drafts.{arc_numbered}
 use Rattle.judging.specs.Calls.{stray}
 
--- one arc more at the end of a plan
-cost_push : (arcs : List Arc) (p : List ℕ) (a : ℕ) → cost arcs (p ++ a ∷ []) ≡ cost arcs p + (arc_at arcs a).minutes
-cost_push arcs [] a = omega arith
-cost_push arcs (b ∷ p) a = omega (arith, cost_push arcs p a)
-
-pub cost_more : (arcs : List Arc) (p : List ℕ) (i : ℕ) → i < length p → cost arcs (take (i + 1) p) ≡ cost arcs (take i p) + (arc_at arcs (get_or p i 0)).minutes
-cost_more arcs p i l = ap (cost arcs) (take_more p i 0 l) ∙ cost_push arcs (take i p) (get_or p i 0)
+-- the cost of a plan is the sum of its arcs' minutes
+pub cost_summed : (arcs : List Arc) (p : List ℕ) → sum_by (λ a. (arc_at arcs a).minutes) p ≡ cost arcs p
+cost_summed arcs [] = refl
+cost_summed arcs (a ∷ p) = sum_by-cons _ a p ∙ ap (λ n. (arc_at arcs a).minutes + n) (cost_summed arcs p)
 
 -- what is known of an arc that is there, and of one that is not
 from_cond : {X : Type 0} (b : Bool) (x y : X) → Some x ≡ cond b (Some y) None → (b ≡ true) × (x ≡ y)

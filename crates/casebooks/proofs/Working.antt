@@ -1,8 +1,10 @@
 -- The working case as code sees it, and what a call that no row refuses may ask. Assumes nothing.
-use Rattle.std.proofs.Common.{◌≡◌, ℕ, ◌<◌, ◌≤◌, Bool, true, false, ◌&&◌, List, [], ◌∷◌, length, get_or, ℤ, None, refl, ap, ◌∙◌, inl, inr, arith}
+use Rattle.std.proofs.Common.{◌≡◌, ℕ, ◌<◌, ◌≤◌, Bool, true, false, ◌&&◌, List, [], ◌∷◌, length, get_or, ℤ, Some, None, Ok, Err, Option, refl, ap, ◌∙◌, inl, inr, arith}
 use mathlib.Core.Path.{fun_ext}
 use Rattle.std.proofs.lemmas.Bool.{ltb-false, cases_lt, true≢false}
+use Rattle.terms.specs.declared.refusal.Refusal.{Refusal}
 use Rattle.terms.specs.declared.refusal.Refusal.TheVariants.{TooManyRules, NoCase, ShortBuffer}
+use Rattle.terms.specs.Refusals.{Outcome, decided}
 use Rattle.plans.specs.Cases.{Case, on_some, kept}
 use Rattle.rules.specs.Lawful.{Problem}
 use Rattle.ways.specs.Amounts.{marked}
@@ -10,6 +12,7 @@ use Rattle.judging.specs.Cases.{Model, none_open}
 use Rattle.judging.specs.Calls.{multiplier_rows, too_many_rules, no_case, short_buffer, strike_rows, price_rows}
 use Rattle.judging.proofs.Rows.{or_none, when_none, multipliers_fair}
 use Rattle.through.specs.Pricings.{Priceable}
+use Rattle.casebooks.specs.Rows.{passed}
 
 -- marks that tell of each arc whether it is in a case are that case
 pub same_case : (r : List Bool) (s : Case) → ((a : ℕ) → get_or r a false ≡ s a) → marked r ≡ s
@@ -36,6 +39,16 @@ kept_case s ps new n each beyond = fun_ext at
 some_open : (cs : List Case) → none_open cs ≡ false → 0 < length cs
 some_open [] e = absurd (true≢false e)
 some_open (s ∷ rest) e = omega arith
+
+-- where nothing is told of the rows that may refuse a call, none of them holds
+pub passed_none : (o : Option Refusal) → Ok tt ≡ passed o → o ≡ None
+passed_none None e = refl
+passed_none (Some r) e = cc
+
+-- and where a refusal is told, the call is refused by it
+pub refused : {S A : Type 0} (s : S) (o : Option Refusal) (done : Outcome S A) (r : Refusal) → Err r ≡ passed o → decided s o done ≡ record { answer = Err r; left = s }
+refused s None done r e = cc
+refused s (Some x) done r e = let k : x ≡ r = cc in ap (λ (y : Refusal). record { answer = Err y; left = s }) k
 
 -- no row on multipliers holds, so prices may be asked
 pub rows_asked : (t : Problem) (zs : List ℤ) → multiplier_rows t zs ≡ None → Priceable t.rules zs

@@ -8,6 +8,7 @@ use Rattle.plans.specs.Arcs.{arc_at}
 use Rattle.plans.specs.Cases.{every}
 use Rattle.judging.specs.Cases.{inside, outside}
 use Rattle.piles.specs.declared.pile.Split.{Split}
+use Rattle.piles.specs.declared.pile.Side.TheVariants.{Inside, Outside}
 use Rattle.piles.specs.Heights.{no_split, split_at, stands_at, left_by, cases_under, cases_of, sided, cut_mark, lift_mark, keep_mark}
 
 pub length_under : (arcs : List Arc) (marks : List ℕ) (splits : List Split) (i : ℕ) → length (cases_under arcs marks splits i) ≡ i
@@ -78,9 +79,9 @@ split_level false e m k i h l = refl
 split_level true true m k i h l = grind (arith, nat_tests)
 split_level true false m k i h l = grind (arith, nat_tests)
 
-module _ (arcs : List Arc) (marks new : List ℕ) (splits : List Split) (x : Split) (i : ℕ) (long : i < length splits) (low : (a : ℕ) → get_or marks a 0 ≤ suc i) (each : (a : ℕ) → get_or new a 0 ≡ cut_mark arcs x.place x.routes.bits false (suc (suc i)) a (get_or marks a 0)) where
+module _ (arcs : List Arc) (marks new : List ℕ) (splits : List Split) (x : Split) (i : ℕ) (long : i < length splits) (low : (a : ℕ) → get_or marks a 0 ≤ suc i) (each : (a : ℕ) → get_or new a 0 ≡ cut_mark arcs x.place x.routes.bits Outside (suc (suc i)) a (get_or marks a 0)) where
   pub split_low : (a : ℕ) → get_or new a 0 ≤ suc (suc i)
-  split_low a = subst (λ m. m ≤ suc (suc i)) (sym (each a)) (by (sided arcs x.place x.routes.bits false a (get_or marks a 0)) (get_or marks a 0) (low a))
+  split_low a = subst (λ m. m ≤ suc (suc i)) (sym (each a)) (by (sided arcs x.place x.routes.bits Outside a (get_or marks a 0)) (get_or marks a 0) (low a))
     where
       by : (b : Bool) (m : ℕ) → m ≤ suc i → cond b (suc (suc i)) m ≤ suc (suc i)
       by true m h = omega arith
@@ -118,9 +119,9 @@ closed_mark : (b : Bool) (m k : ℕ) → m ≤ suc k → cond b k (lift_mark (su
 closed_mark true m k h = omega arith
 closed_mark false m k h = grind (arith, nat_tests)
 
-module _ (arcs : List Arc) (marks new : List ℕ) (splits : List Split) (i : ℕ) (low : (a : ℕ) → get_or marks a 0 ≤ suc (suc i)) (each : (a : ℕ) → get_or new a 0 ≡ cut_mark arcs (split_at splits i).place (split_at splits i).routes.bits true (suc i) a (lift_mark (suc (suc i)) (get_or marks a 0))) where
+module _ (arcs : List Arc) (marks new : List ℕ) (splits : List Split) (i : ℕ) (low : (a : ℕ) → get_or marks a 0 ≤ suc (suc i)) (each : (a : ℕ) → get_or new a 0 ≡ cut_mark arcs (split_at splits i).place (split_at splits i).routes.bits Inside (suc i) a (lift_mark (suc (suc i)) (get_or marks a 0))) where
   pub closed_low : (a : ℕ) → get_or new a 0 ≤ suc i
-  closed_low a = subst (λ m. m ≤ suc i) (sym (each a)) (closed_mark (sided arcs (split_at splits i).place (split_at splits i).routes.bits true a (lift_mark (suc (suc i)) (get_or marks a 0))) (get_or marks a 0) (suc i) (low a))
+  closed_low a = subst (λ m. m ≤ suc i) (sym (each a)) (closed_mark (sided arcs (split_at splits i).place (split_at splits i).routes.bits Inside a (lift_mark (suc (suc i)) (get_or marks a 0))) (get_or marks a 0) (suc i) (low a))
 
   pub closed_cases : cases_of arcs new splits (suc i) ≡ cases_under arcs marks splits (suc i)
   closed_cases =

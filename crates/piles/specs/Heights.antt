@@ -1,11 +1,13 @@
 -- The cases that marks and split records stand for. Assumes nothing.
-use Rattle.std.specs.Prelude.{ℕ, zero, suc, Bool, true, false, cond, not, ◌&&◌, ◌||◌, List, [], ◌∷◌, length, ◌==◌, nat_lt, slice_index, slice_index_or}
+use Rattle.std.specs.Prelude.{ℕ, zero, suc, Bool, false, cond, not, ◌&&◌, ◌||◌, List, [], ◌∷◌, length, ◌==◌, nat_lt, slice_index, slice_index_or}
 use Rattle.terms.specs.declared.arc.Arc.{Arc}
 use Rattle.terms.specs.Routes.{in_set}
 use Rattle.plans.specs.Arcs.{arc_at}
 use Rattle.plans.specs.Cases.{Case}
 use Rattle.judging.specs.Cases.{outside}
 use Rattle.piles.specs.declared.pile.Split.{Split}
+use Rattle.piles.specs.declared.pile.Side.{Side}
+use Rattle.piles.specs.declared.pile.Side.TheVariants.{Inside, Outside}
 
 -- stands past the end of a table of records
 abbrev pub no_split : Split
@@ -32,19 +34,19 @@ abbrev pub cases_of : List Arc → List ℕ → List Split → ℕ → List Case
 cases_of arcs marks splits zero = []
 cases_of arcs marks splits (suc i) = stands_at arcs marks (suc i) ∷ cases_under arcs marks splits i
 
--- one side of a set: its routes, or the others
-abbrev pub on_side : Bool → Bool → Bool
-on_side true inn = inn
-on_side false inn = not inn
+-- whether a route is on one side of a set, by whether it is in the set
+abbrev pub on_side : Side → Bool → Bool
+on_side Inside inn = inn
+on_side Outside inn = not inn
 
 -- arc a, whose mark is m, is one of the chart's, stands in the working case, and is of place k with a route on one side of
 -- a set
-abbrev pub sided : List Arc → ℕ → ℕ → Bool → ℕ → ℕ → Bool
+abbrev pub sided : List Arc → ℕ → ℕ → Side → ℕ → ℕ → Bool
 sided arcs k routes side a m =
     nat_lt a (length arcs) && (m == 0 && ((arc_at arcs a).place == k && on_side side (in_set routes (arc_at arcs a).route)))
 
 -- the mark after all such arcs are given a height
-abbrev pub cut_mark : List Arc → ℕ → ℕ → Bool → ℕ → ℕ → ℕ → ℕ
+abbrev pub cut_mark : List Arc → ℕ → ℕ → Side → ℕ → ℕ → ℕ → ℕ
 cut_mark arcs k routes side height a m = cond (sided arcs k routes side a m) height m
 
 -- the mark after the marks of one height are taken away

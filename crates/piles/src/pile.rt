@@ -5,15 +5,24 @@
 //! height says which routes of a place went to the case above it.
 ghost use Rattle.std.specs.Prelude.{◌≡◌, ℕ, ◌≤◌, length, slice_index};
 
+use terms::arc::Arc;
 use terms::routes::RouteSet;
 
 mod calls;
 mod marking;
 
+/// The arcs of a chart, by their numbers: no more of them than there are marks.
+#[derive(Clone, Copy)]
+pub struct Arcs<'a> {
+    pub all: &'a [Arc],
+    ghost few: { length all.now ≤ 1024 },
+}
+
 /// For each arc the height at which it left, or 0.
 #[derive(Drop)]
 pub struct Marks {
     pub at: [u16; 1024],
+    ghost long: { length at ≡ 1024 },
 }
 
 /// What a split gave to the case above: the routes of a set at a place.
@@ -21,6 +30,13 @@ pub struct Marks {
 pub struct Split {
     pub place: u8,
     pub routes: RouteSet,
+}
+
+/// One side of a split: the routes of its set, or all others.
+#[derive(Clone, Copy, Drop)]
+pub enum Side {
+    Inside,
+    Outside,
 }
 
 /// A table of split records, one for each height below the top, of which `count` counts the cases open.
@@ -35,7 +51,6 @@ pub struct SplitTable {
 pub struct Pile {
     marks: Marks,
     table: SplitTable,
-    ghost marked: { length marks.at ≡ 1024 },
     ghost recorded: { length table.at ≡ 1024 },
     ghost within: { table.count ≤ 1024 },
     ghost low: { (a : ℕ) → slice_index marks.at a ≤ table.count },

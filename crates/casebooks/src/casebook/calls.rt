@@ -5,7 +5,7 @@ ghost use Rattle.rules.specs.Rules.{counted};
 ghost use Rattle.judging.specs.Cases.{opened};
 ghost use Rattle.judging.specs.Calls.{on_claim, on_price, on_sample, on_strike, on_trim, on_split, on_close, on_offer, verdict_of, Call, run};
 ghost use Rattle.judging.specs.Theorem.{Recalled, Meant};
-ghost use Rattle.casebooks.specs.Views.{problem_of, model_of, problem_in};
+ghost use Rattle.casebooks.specs.Views.{problem_in, model_in};
 
 use crate::casebook::{Casebook, Desk};
 use charts::chart::Chart;
@@ -17,8 +17,8 @@ use terms::verdict::Verdict;
 impl<B: Bank> Casebook<B> {
     /// Opens a casebook on a sealed chart and a bank, and keeps both: claim 0, one case with every arc, no plan held.
     pub fn open(chart: Chart, bank: B) -> Casebook<B>
-        ensures judges { problem_of result.desk (B.Bank.rules result.bank) ≡ record { places = places_of chart; arcs = arcs_of chart; rules = B.Bank.rules bank } }
-        ensures model { model_of result.desk ≡ opened (problem_of result.desk (B.Bank.rules result.bank)) }
+        ensures judges { problem_in B.Bank result ≡ record { places = places_of chart; arcs = arcs_of chart; rules = B.Bank.rules bank } }
+        ensures model { model_in result ≡ opened (problem_in B.Bank result) }
     {
         let desk = Desk::new(chart);
         Casebook { desk, bank }
@@ -42,9 +42,9 @@ impl<B: Bank> Casebook<B> {
     /// Claims that no lawful plan takes fewer minutes: 0 to 1,000,000. The pile becomes one case with every arc; the
     /// plan held remains. Answers the cases open.
     pub fn claim(&mut self, minutes: u64) -> Result<usize, Refusal>
-        ensures reply { result ≡ (on_claim (problem_of self.old.desk (B.Bank.rules self.old.bank)) (model_of self.old.desk) minutes).answer }
-        ensures left { model_of self.new.desk ≡ (on_claim (problem_of self.old.desk (B.Bank.rules self.old.bank)) (model_of self.old.desk) minutes).left }
-        ensures same { problem_of self.new.desk (B.Bank.rules self.new.bank) ≡ problem_of self.old.desk (B.Bank.rules self.old.bank) }
+        ensures reply { result ≡ (on_claim (problem_in B.Bank self.old) (model_in self.old) minutes).answer }
+        ensures left { model_in self.new ≡ (on_claim (problem_in B.Bank self.old) (model_in self.old) minutes).left }
+        ensures same { problem_in B.Bank self.new ≡ problem_in B.Bank self.old }
     {
         if minutes > 1_000_000 {
             return Err(Refusal::ClaimRange);
@@ -56,46 +56,40 @@ impl<B: Bank> Casebook<B> {
     /// Answers the least priced amount over the plans that stand in the working case, if any stands, and writes the
     /// first plan with that amount into the first places of the buffer.
     pub fn price(&self, multipliers: &[i64], plan: &mut [usize]) -> Result<Option<i64>, Refusal>
-        ensures reply { result ≡ (on_price (problem_of self.now.desk (B.Bank.rules self.now.bank)) (model_of self.now.desk) multipliers.now plan.old).answer }
-        ensures buffer { plan.new ≡ (on_price (problem_of self.now.desk (B.Bank.rules self.now.bank)) (model_of self.now.desk) multipliers.now plan.old).left.buffer }
-        ensures left { model_of self.now.desk ≡ (on_price (problem_of self.now.desk (B.Bank.rules self.now.bank)) (model_of self.now.desk) multipliers.now plan.old).left.model }
+        ensures reply { result ≡ (on_price (problem_in B.Bank self.now) (model_in self.now) multipliers.now plan.old).answer }
+        ensures buffer { plan.new ≡ (on_price (problem_in B.Bank self.now) (model_in self.now) multipliers.now plan.old).left.buffer }
+        ensures left { model_in self.now ≡ (on_price (problem_in B.Bank self.now) (model_in self.now) multipliers.now plan.old).left.model }
     {
-        if let Some(refusal) = self.desk.price_row(&self.bank, multipliers, plan) {
-            return Err(refusal);
-        }
+        self.desk.price_row(&self.bank, multipliers, plan)?;
         Ok(self.desk.priced(&self.bank, multipliers, plan))
     }
 
     /// Writes the first plan that stands in the working case into the first places of the buffer, and answers whether
     /// one stands.
     pub fn sample(&self, plan: &mut [usize]) -> Result<bool, Refusal>
-        ensures reply { result ≡ (on_sample (problem_of self.now.desk (B.Bank.rules self.now.bank)) (model_of self.now.desk) plan.old).answer }
-        ensures buffer { plan.new ≡ (on_sample (problem_of self.now.desk (B.Bank.rules self.now.bank)) (model_of self.now.desk) plan.old).left.buffer }
-        ensures left { model_of self.now.desk ≡ (on_sample (problem_of self.now.desk (B.Bank.rules self.now.bank)) (model_of self.now.desk) plan.old).left.model }
+        ensures reply { result ≡ (on_sample (problem_in B.Bank self.now) (model_in self.now) plan.old).answer }
+        ensures buffer { plan.new ≡ (on_sample (problem_in B.Bank self.now) (model_in self.now) plan.old).left.buffer }
+        ensures left { model_in self.now ≡ (on_sample (problem_in B.Bank self.now) (model_in self.now) plan.old).left.model }
     {
-        if let Some(refusal) = self.desk.sample_row(plan) {
-            return Err(refusal);
-        }
+        self.desk.sample_row(plan)?;
         Ok(self.desk.sampled(plan))
     }
 
     /// Removes from the working case each arc on no standing plan priced below the mark of the claim. Answers how many.
     pub fn strike(&mut self, multipliers: &[i64]) -> Result<usize, Refusal>
-        ensures reply { result ≡ (on_strike (problem_of self.old.desk (B.Bank.rules self.old.bank)) (model_of self.old.desk) multipliers.now).answer }
-        ensures left { model_of self.new.desk ≡ (on_strike (problem_of self.old.desk (B.Bank.rules self.old.bank)) (model_of self.old.desk) multipliers.now).left }
-        ensures same { problem_of self.new.desk (B.Bank.rules self.new.bank) ≡ problem_of self.old.desk (B.Bank.rules self.old.bank) }
+        ensures reply { result ≡ (on_strike (problem_in B.Bank self.old) (model_in self.old) multipliers.now).answer }
+        ensures left { model_in self.new ≡ (on_strike (problem_in B.Bank self.old) (model_in self.old) multipliers.now).left }
+        ensures same { problem_in B.Bank self.new ≡ problem_in B.Bank self.old }
     {
-        if let Some(refusal) = self.desk.strike_row(&self.bank, multipliers) {
-            return Err(refusal);
-        }
+        self.desk.strike_row(&self.bank, multipliers)?;
         Ok(self.desk.strike(&self.bank, multipliers))
     }
 
     /// Removes from the working case each arc on no standing plan. Answers how many.
     pub fn trim(&mut self) -> Result<usize, Refusal>
-        ensures reply { result ≡ (on_trim (problem_of self.old.desk (B.Bank.rules self.old.bank)) (model_of self.old.desk)).answer }
-        ensures left { model_of self.new.desk ≡ (on_trim (problem_of self.old.desk (B.Bank.rules self.old.bank)) (model_of self.old.desk)).left }
-        ensures same { problem_of self.new.desk (B.Bank.rules self.new.bank) ≡ problem_of self.old.desk (B.Bank.rules self.old.bank) }
+        ensures reply { result ≡ (on_trim (problem_in B.Bank self.old) (model_in self.old)).answer }
+        ensures left { model_in self.new ≡ (on_trim (problem_in B.Bank self.old) (model_in self.old)).left }
+        ensures same { problem_in B.Bank self.new ≡ problem_in B.Bank self.old }
     {
         if self.desk.height() == 0 {
             return Err(Refusal::NoCase);
@@ -106,13 +100,11 @@ impl<B: Bank> Casebook<B> {
     /// Removes the working case, if no plan stands in it that is priced below the mark of the claim. Answers the cases
     /// open.
     pub fn close(&mut self, multipliers: &[i64]) -> Result<usize, Refusal>
-        ensures reply { result ≡ (on_close (problem_of self.old.desk (B.Bank.rules self.old.bank)) (model_of self.old.desk) multipliers.now).answer }
-        ensures left { model_of self.new.desk ≡ (on_close (problem_of self.old.desk (B.Bank.rules self.old.bank)) (model_of self.old.desk) multipliers.now).left }
-        ensures same { problem_of self.new.desk (B.Bank.rules self.new.bank) ≡ problem_of self.old.desk (B.Bank.rules self.old.bank) }
+        ensures reply { result ≡ (on_close (problem_in B.Bank self.old) (model_in self.old) multipliers.now).answer }
+        ensures left { model_in self.new ≡ (on_close (problem_in B.Bank self.old) (model_in self.old) multipliers.now).left }
+        ensures same { problem_in B.Bank self.new ≡ problem_in B.Bank self.old }
     {
-        if let Some(refusal) = self.desk.strike_row(&self.bank, multipliers) {
-            return Err(refusal);
-        }
+        self.desk.strike_row(&self.bank, multipliers)?;
         if let Some(amount) = self.desk.undercut(&self.bank, multipliers) {
             return Err(Refusal::NotClosed(amount));
         }
@@ -124,13 +116,11 @@ impl<B: Bank> Casebook<B> {
     /// Splits the working case: it keeps, at a place, only the routes outside a set, and a copy with only those
     /// inside goes on top. Answers the cases open.
     pub fn split(&mut self, place: u64, routes: RouteSet) -> Result<usize, Refusal>
-        ensures reply { result ≡ (on_split (problem_of self.old.desk (B.Bank.rules self.old.bank)) (model_of self.old.desk) place routes.bits).answer }
-        ensures left { model_of self.new.desk ≡ (on_split (problem_of self.old.desk (B.Bank.rules self.old.bank)) (model_of self.old.desk) place routes.bits).left }
-        ensures same { problem_of self.new.desk (B.Bank.rules self.new.bank) ≡ problem_of self.old.desk (B.Bank.rules self.old.bank) }
+        ensures reply { result ≡ (on_split (problem_in B.Bank self.old) (model_in self.old) place routes.bits).answer }
+        ensures left { model_in self.new ≡ (on_split (problem_in B.Bank self.old) (model_in self.old) place routes.bits).left }
+        ensures same { problem_in B.Bank self.new ≡ problem_in B.Bank self.old }
     {
-        if let Some(refusal) = self.desk.split_row(place, routes) {
-            return Err(refusal);
-        }
+        self.desk.split_row(place, routes)?;
         let height = self.desk.height();
         self.desk.split(place as u8, routes);
         Ok(height + 1)
@@ -138,22 +128,20 @@ impl<B: Bank> Casebook<B> {
 
     /// Judges arc numbers against the chart as sealed, and holds the plan. Answers its cost.
     pub fn offer(&mut self, arcs: &[usize]) -> Result<u32, Refusal>
-        ensures reply { result ≡ (on_offer (problem_of self.old.desk (B.Bank.rules self.old.bank)) (model_of self.old.desk) arcs.now).answer }
-        ensures left { model_of self.new.desk ≡ (on_offer (problem_of self.old.desk (B.Bank.rules self.old.bank)) (model_of self.old.desk) arcs.now).left }
-        ensures same { problem_of self.new.desk (B.Bank.rules self.new.bank) ≡ problem_of self.old.desk (B.Bank.rules self.old.bank) }
+        ensures reply { result ≡ (on_offer (problem_in B.Bank self.old) (model_in self.old) arcs.now).answer }
+        ensures left { model_in self.new ≡ (on_offer (problem_in B.Bank self.old) (model_in self.old) arcs.now).left }
+        ensures same { problem_in B.Bank self.new ≡ problem_in B.Bank self.old }
     {
-        if let Some(refusal) = self.desk.offer_row(&self.bank, arcs) {
-            return Err(refusal);
-        }
+        self.desk.offer_row(&self.bank, arcs)?;
         self.desk.hold(arcs);
         Ok(self.desk.cost(arcs))
     }
 
     /// Says what is to be said of the claim.
     pub fn verdict(&self) -> Verdict
-        ensures value { result ≡ verdict_of (problem_of self.now.desk (B.Bank.rules self.now.bank)) (model_of self.now.desk) }
-        ensures theorem { (calls : List Call) → Recalled (problem_of self.now.desk (B.Bank.rules self.now.bank)) calls × Meant (problem_of self.now.desk (B.Bank.rules self.now.bank)) (run (problem_of self.now.desk (B.Bank.rules self.now.bank)) calls (opened (problem_of self.now.desk (B.Bank.rules self.now.bank)))) }
-        ensures here { (calls : List Call) → model_of self.now.desk ≡ run (problem_of self.now.desk (B.Bank.rules self.now.bank)) calls (opened (problem_of self.now.desk (B.Bank.rules self.now.bank))) → Meant (problem_of self.now.desk (B.Bank.rules self.now.bank)) (model_of self.now.desk) }
+        ensures value { result ≡ verdict_of (problem_in B.Bank self.now) (model_in self.now) }
+        ensures theorem { let t = problem_in B.Bank self.now in (calls : List Call) → Recalled t calls × Meant t (run t calls (opened t)) }
+        ensures here { let t = problem_in B.Bank self.now in (calls : List Call) → model_in self.now ≡ run t calls (opened t) → Meant t (model_in self.now) }
     {
         let _ = self.desk.sealed();
         self.desk.verdict()

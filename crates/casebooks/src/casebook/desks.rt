@@ -7,15 +7,24 @@ ghost use Rattle.charts.specs.Drafts.{places_of, arcs_of};
 ghost use Rattle.judging.specs.Cases.{inside, outside, top, under, piled};
 ghost use Rattle.judging.specs.Calls.{split_rows, judged};
 ghost use Rattle.ways.specs.Minutes.{cost_in};
+ghost use Rattle.casebooks.specs.Rows.{passed};
 ghost use Rattle.casebooks.specs.Views.{problem_of, model_of, held_of, holding, restarted};
 
 use crate::casebook::offers::cost_of;
 use crate::casebook::{Claim, Desk, HeldPlan};
 use charts::chart::Chart;
-use piles::pile::Pile;
+use piles::pile::{Arcs, Pile, Split};
 use terms::refusal::Refusal;
 use terms::routes::RouteSet;
 use terms::verdict::Verdict;
+
+/// The arcs of a chart, as the pile takes them.
+fn arcs_in(chart: &Chart) -> Arcs<'_>
+    ensures { result.all.now ≡ arcs_of chart.now }
+{
+    let _ = chart.places();
+    Arcs { all: chart.arcs() }
+}
 
 impl HeldPlan {
     /// A plan in the first places of an array.
@@ -23,10 +32,8 @@ impl HeldPlan {
         requires { length plan.now ≤ 32 }
         ensures { take (length plan.now) result.at ≡ plan.now }
     {
-        let mut at = [0usize; 32];
-        for i in 0..plan.len() {
-            at[i] = plan[i];
-        }
+        let mut at = [0; 32];
+        at[..plan.len()].copy_from_slice(plan);
         HeldPlan { at }
     }
 }
@@ -83,11 +90,11 @@ impl Desk {
     pub fn working(&self) -> [bool; 1024]
         requires { 0 < length (model_of self.now).pile }
         ensures long { length result ≡ 1024 }
+        ensures all { length (arcs_of self.now.chart) ≤ 1024 }
         ensures each { (a : ℕ) → slice_index_or result a false ≡ top (model_of self.now).pile a }
         ensures beyond { (a : ℕ) → length (arcs_of self.now.chart) ≤ a → top (model_of self.now).pile a ≡ false }
     {
-        let _ = self.chart.places();
-        self.pile.working(self.chart.arcs())
+        self.pile.working(arcs_in(&self.chart))
     }
 
     /// Leaves in the working case only the arcs that are kept.
@@ -97,31 +104,31 @@ impl Desk {
         ensures chart { self.new.chart ≡ self.old.chart }
         ensures model { model_of self.new ≡ piled (model_of self.old) ((λ a. top (model_of self.old).pile a && slice_index_or keeps.now a false) ∷ under (model_of self.old).pile) }
     {
-        let _ = self.chart.places();
-        self.pile.keep(self.chart.arcs(), keeps);
+        self.pile.keep(arcs_in(&self.chart), keeps);
     }
 
     /// The first row that refuses a split.
-    pub fn split_row(&self, place: u64, routes: RouteSet) -> Option<Refusal>
-        ensures { result ≡ split_rows (problem_of self.now []) (model_of self.now) place routes.bits }
+    pub fn split_row(&self, place: u64, routes: RouteSet) -> Result<(), Refusal>
+        ensures { result ≡ passed (split_rows (problem_of self.now []) (model_of self.now) place routes.bits) }
     {
         let height = self.pile.height();
         if height == 0 {
-            return Some(Refusal::NoCase);
+            return Err(Refusal::NoCase);
         }
-        if place < 1 || place > self.chart.places() as u64 {
-            return Some(Refusal::SplitPlace);
+        if place < 1 || place > u64::from(self.chart.places()) {
+            return Err(Refusal::SplitPlace);
         }
-        if self
-            .pile
-            .is_one_sided(self.chart.arcs(), place as u8, routes)
-        {
-            return Some(Refusal::OneSided);
+        let split = Split {
+            place: place as u8,
+            routes,
+        };
+        if self.pile.is_one_sided(arcs_in(&self.chart), split) {
+            return Err(Refusal::OneSided);
         }
         if height >= 1024 {
-            return Some(Refusal::PileFull);
+            return Err(Refusal::PileFull);
         }
-        None
+        Ok(())
     }
 
     /// Splits the working case.
@@ -131,8 +138,8 @@ impl Desk {
         ensures chart { self.new.chart ≡ self.old.chart }
         ensures model { model_of self.new ≡ piled (model_of self.old) (inside (arcs_of self.old.chart) place routes.bits (top (model_of self.old).pile) ∷ outside (arcs_of self.old.chart) place routes.bits (top (model_of self.old).pile) ∷ under (model_of self.old).pile) }
     {
-        let _ = self.chart.places();
-        self.pile.split(self.chart.arcs(), place, routes);
+        let split = Split { place, routes };
+        self.pile.split(arcs_in(&self.chart), split);
     }
 
     /// Removes the working case.
@@ -141,8 +148,7 @@ impl Desk {
         ensures chart { self.new.chart ≡ self.old.chart }
         ensures model { model_of self.new ≡ piled (model_of self.old) (under (model_of self.old).pile) }
     {
-        let _ = self.chart.places();
-        self.pile.close(self.chart.arcs());
+        self.pile.close(arcs_in(&self.chart));
     }
 
     /// Holds a plan.
@@ -151,7 +157,6 @@ impl Desk {
         ensures chart { self.new.chart ≡ self.old.chart }
         ensures model { model_of self.new ≡ holding (model_of self.old) plan.now }
     {
-        let _ = self.chart.places();
         self.held = Some(HeldPlan::of(plan));
     }
 
@@ -159,11 +164,10 @@ impl Desk {
     pub fn held_cost(&self) -> Option<u32>
         ensures { result ≡ cost_in (arcs_of self.now.chart) (model_of self.now).held }
     {
-        let places = self.chart.places() as usize;
-        match &self.held {
-            None => None,
-            Some(plan) => Some(cost_of(&self.chart, &plan.at[0..places])),
-        }
+        let places = usize::from(self.chart.places());
+        self.held
+            .as_ref()
+            .map(|plan| cost_of(&self.chart, &plan.at[..places]))
     }
 
     /// What is to be said of the claim.
@@ -172,24 +176,10 @@ impl Desk {
     {
         let closed = self.pile.height() == 0;
         match self.held_cost() {
-            None => {
-                if closed {
-                    Verdict::Proved
-                } else {
-                    Verdict::Open
-                }
-            }
-            Some(cost) => {
-                if cost < self.claim.minutes {
-                    Verdict::Refuted
-                } else if !closed {
-                    Verdict::Open
-                } else if cost == self.claim.minutes {
-                    Verdict::Best
-                } else {
-                    Verdict::Proved
-                }
-            }
+            Some(cost) if cost < self.claim.minutes => Verdict::Refuted,
+            _ if !closed => Verdict::Open,
+            Some(cost) if cost == self.claim.minutes => Verdict::Best,
+            _ => Verdict::Proved,
         }
     }
 }

@@ -16,10 +16,7 @@ use terms::rule::Sense;
 fn minutes_of(chart: &Chart, number: usize) -> u16
     ensures { result ≡ (arc_at (arcs_of chart.now) number).minutes }
 {
-    match chart.arc(number) {
-        Some(arc) => arc.minutes,
-        None => 0,
-    }
+    chart.arc(number).map_or(0, |arc| arc.minutes)
 }
 
 /// The cost of a plan: the sum of its minutes.
@@ -27,11 +24,9 @@ pub fn cost_of(chart: &Chart, plan: &[usize]) -> u32
     requires { length plan.now ≤ 32 }
     ensures { result ≡ cost (arcs_of chart.now) plan.now }
 {
-    let mut sum = 0u32;
-    for i in 0..plan.len() {
-        sum += u32::from(minutes_of(chart, plan[i]));
-    }
-    sum
+    plan.iter()
+        .map(|number| u32::from(minutes_of(chart, *number)))
+        .sum()
 }
 
 /// The first place whose arc is missing, of another place or unconnected.
@@ -40,15 +35,13 @@ pub fn stray(chart: &Chart, offered: &[usize]) -> Option<u8>
     ensures { result ≡ stray_in (arcs_of chart.now) 1 0 offered.now }
 {
     let mut node = 0u8;
-    for j in 0..offered.len() {
-        let Some(arc) = chart.arc(offered[j]) else {
-            return Some(j as u8 + 1);
+    for (j, number) in offered.iter().enumerate() {
+        let place = j as u8 + 1;
+        let Some(arc) = chart.arc(*number) else {
+            return Some(place);
         };
-        if arc.place != j as u8 + 1 {
-            return Some(j as u8 + 1);
-        }
-        if arc.start != node {
-            return Some(j as u8 + 1);
+        if arc.place != place || arc.start != node {
+            return Some(place);
         }
         node = arc.end;
     }
@@ -66,25 +59,10 @@ fn weight_at<B: Bank>(bank: &B, rule: usize, chart: &Chart, number: usize) -> i6
     let Some(arc) = chart.arc(number) else {
         return 0;
     };
-    let Some(weight) = bank.weight(rule, arc.place as u64, arc.route as u64) else {
+    let Some(weight) = bank.weight(rule, u64::from(arc.place), u64::from(arc.route)) else {
         return 0;
     };
     weight
-}
-
-/// The sum of a rule's weights on a plan.
-fn weigh<B: Bank>(bank: &B, rule: usize, chart: &Chart, plan: &[usize]) -> i64
-    requires few { length plan.now ≤ 32 }
-    requires there { (i : ℕ) → i < length plan.now → slice_index plan.now i < length (arcs_of chart.now) }
-    requires counted { rule < counted_of (B.Bank.rules bank.now) }
-    ensures value { result ≡ weighed (arcs_of chart.now) (slice_index_or (B.Bank.rules bank.now) rule no_rule) plan.now }
-    ensures small { unsigned_abs result ≤ 320000 }
-{
-    let mut sum = 0i64;
-    for i in 0..plan.len() {
-        sum += weight_at(bank, rule, chart, plan[i]);
-    }
-    sum
 }
 
 /// Whether a total meets a sense.
@@ -97,30 +75,50 @@ fn meets(sense: Sense, total: i64) -> bool
     }
 }
 
-/// Whether a plan breaks a rule.
-fn breaks<B: Bank>(bank: &B, rule: usize, chart: &Chart, plan: &[usize]) -> bool
-    requires few { length plan.now ≤ 32 }
-    requires there { (i : ℕ) → i < length plan.now → slice_index plan.now i < length (arcs_of chart.now) }
-    requires counted { rule < counted_of (B.Bank.rules bank.now) }
-    ensures { result ≡ not (holds (arcs_of chart.now) plan.now (slice_index_or (B.Bank.rules bank.now) rule no_rule)) }
-{
-    let Some(head) = bank.head(rule) else {
-        return false;
-    };
-    !meets(head.sense, weigh(bank, rule, chart, plan) - head.limit)
+/// Arcs of a chart that are all there, and no more of them than a chart has places.
+#[derive(Clone, Copy)]
+pub struct Offered<'a> {
+    pub chart: &'a Chart,
+    pub plan: &'a [usize],
+    ghost few: { length plan.now ≤ 32 },
+    ghost there: { (i : ℕ) → i < length plan.now → slice_index plan.now i < length (arcs_of chart.now) },
 }
 
-/// The lowest rule that a plan breaks.
-pub fn first_broken<B: Bank>(bank: &B, chart: &Chart, plan: &[usize]) -> Option<u8>
-    requires few { length plan.now ≤ 32 }
-    requires there { (i : ℕ) → i < length plan.now → slice_index plan.now i < length (arcs_of chart.now) }
-    requires rules { length (B.Bank.rules bank.now) ≤ 128 }
-    ensures { result ≡ lowest (broken (arcs_of chart.now) plan.now (B.Bank.rules bank.now)) }
-{
-    for rule in 0..bank.count() {
-        if breaks(bank, rule, chart, plan) {
-            return Some(rule as u8);
+impl Offered<'_> {
+    /// The sum of a rule's weights on the plan.
+    fn weigh<B: Bank>(self, bank: &B, rule: usize) -> i64
+        requires { rule < counted_of (B.Bank.rules bank.now) }
+        ensures value { result ≡ weighed (arcs_of self.entry.chart.now) (slice_index_or (B.Bank.rules bank.now) rule no_rule) self.entry.plan.now }
+        ensures small { unsigned_abs result ≤ 320000 }
+    {
+        let mut sum = 0;
+        for number in self.plan {
+            sum += weight_at(bank, rule, self.chart, *number);
         }
+        sum
     }
-    None
+
+    /// Whether the plan breaks a rule.
+    fn breaks<B: Bank>(self, bank: &B, rule: usize) -> bool
+        requires { rule < counted_of (B.Bank.rules bank.now) }
+        ensures { result ≡ not (holds (arcs_of self.entry.chart.now) self.entry.plan.now (slice_index_or (B.Bank.rules bank.now) rule no_rule)) }
+    {
+        let Some(head) = bank.head(rule) else {
+            return false;
+        };
+        !meets(head.sense, self.weigh(bank, rule) - head.limit)
+    }
+
+    /// The lowest rule that the plan breaks.
+    pub fn first_broken<B: Bank>(self, bank: &B) -> Option<u8>
+        requires { length (B.Bank.rules bank.now) ≤ 128 }
+        ensures { result ≡ lowest (broken (arcs_of self.entry.chart.now) self.entry.plan.now (B.Bank.rules bank.now)) }
+    {
+        for rule in 0..bank.count() {
+            if self.breaks(bank, rule) {
+                return Some(rule as u8);
+            }
+        }
+        None
+    }
 }

@@ -19,7 +19,7 @@ impl Claim {
     fn mark(self) -> i64
         ensures { result ≡ mark_of self.minutes }
     {
-        1000 * self.minutes as i64
+        1000 * i64::from(self.minutes)
     }
 }
 
@@ -27,10 +27,7 @@ impl Claim {
 fn below(amount: Option<i64>, mark: i64) -> Option<i64>
     ensures { result ≡ undercut_by mark amount }
 {
-    match amount {
-        None => None,
-        Some(least) => { if least < mark { Some(least) } else { None } }
-    }
+    amount.filter(|least| *least < mark)
 }
 
 impl Desk {
@@ -42,7 +39,6 @@ impl Desk {
         ensures amount { result ≡ least (problem_of self.now (B.Bank.rules bank.now)) multipliers.now (top (model_of self.now).pile) }
         ensures plan { plan.new ≡ written (first_plan (problem_of self.now (B.Bank.rules bank.now)) multipliers.now (top (model_of self.now).pile)) plan.old }
     {
-        let _ = self.chart.places();
         let standing = self.working();
         priced_plan(&self.chart, bank, multipliers, &standing, plan)
     }
@@ -54,7 +50,6 @@ impl Desk {
         ensures answer { result ≡ is_there (foremost (standing_in (problem_of self.now []) (top (model_of self.now).pile))) }
         ensures plan { plan.new ≡ written (foremost (standing_in (problem_of self.now []) (top (model_of self.now).pile))) plan.old }
     {
-        let _ = self.chart.places();
         let standing = self.working();
         first_plan(&self.chart, &standing, plan)
     }
@@ -65,7 +60,6 @@ impl Desk {
         requires some { 0 < length (model_of self.now).pile }
         ensures { result ≡ undercut_by (mark_of (model_of self.now).claimed) (least (problem_of self.now (B.Bank.rules bank.now)) multipliers.now (top (model_of self.now).pile)) }
     {
-        let _ = self.chart.places();
         let standing = self.working();
         below(
             least_amount(&self.chart, bank, multipliers, &standing),
@@ -81,7 +75,6 @@ impl Desk {
         ensures answer { Ok result ≡ (keeping (problem_of self.old (B.Bank.rules bank.now)) (model_of self.old) (cheaply (problem_of self.old (B.Bank.rules bank.now)) (model_of self.old) multipliers.now)).answer }
         ensures model { model_of self.new ≡ (keeping (problem_of self.old (B.Bank.rules bank.now)) (model_of self.old) (cheaply (problem_of self.old (B.Bank.rules bank.now)) (model_of self.old) multipliers.now)).left }
     {
-        let _ = self.chart.places();
         let mut standing = self.working();
         let removed = strike(
             &self.chart,
@@ -101,7 +94,6 @@ impl Desk {
         ensures answer { Ok result ≡ (keeping (problem_of self.old []) (model_of self.old) (standing_in (problem_of self.old []) (top (model_of self.old).pile))).answer }
         ensures model { model_of self.new ≡ (keeping (problem_of self.old []) (model_of self.old) (standing_in (problem_of self.old []) (top (model_of self.old).pile))).left }
     {
-        let _ = self.chart.places();
         let mut standing = self.working();
         let removed = trim(&self.chart, &mut standing);
         self.keep(&standing);

@@ -4,12 +4,11 @@ use Rattle.judging.proofs.Rows.{stray_none}
 use Rattle.casebooks.proofs.Offers.{path_there}
 use Rattle.casebooks.proofs.casebook.Desk.offer_row.Goals as goal
 
-pub first_broken-requires : goal.first_broken-requires
-first_broken-requires g c =
+pub invariant_of-offer : goal.invariant_of-offer
+invariant_of-offer g c =
     let arcs = arcs_of c.args.self.now.chart in
     let p = c.args.offered.now in
     record {
-      few = omega (arith, c.if-offered-places.false, c.places.ensures.value, c.places.ensures.sealed.few);
+      few = omega (arith, c.if-offered-from.false, c.from.ensures, c.places.ensures.value, c.places.ensures.sealed.few);
       there = path_there arcs p 1 0 (stray_none arcs 1 0 p (sym c.in_default.ensures));
-      rules = omega (arith, c.count.ensures, c.if-count-gt128.false);
     }

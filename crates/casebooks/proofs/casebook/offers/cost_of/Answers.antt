@@ -1,14 +1,14 @@
-use Rattle.std.proofs.Common.{ap, ◌∙◌, arith}
-use Rattle.std.proofs.lemmas.List.{take_all}
-use Rattle.plans.specs.Plans.{cost}
+use Rattle.std.proofs.Common.{◌≡◌, ◌∙◌, rules}
+use Rattle.std.specs.List.{sum_by}
+use Rattle.std.proofs.iter.runs.Made.{chains}
+use Rattle.plans.specs.Arcs.{arc_at}
 use Rattle.charts.specs.Drafts.{arcs_of}
-use Rattle.casebooks.proofs.Offers.{cost_more}
+use Rattle.casebooks.proofs.Offers.{cost_summed}
 use Rattle.casebooks.proofs.casebook.offers.cost_of.Goals as goal
 
-pub loop-i-preserved : goal.loop-i-preserved
-loop-i-preserved c =
-    let e = cost_more (arcs_of c.args.chart.now) c.args.plan.now c.loop-i.i c.loop-i-test.true in
-    (omega (arith, e, c.minutes_of.ensures, c.loop-i.invariant.0), omega (arith, c.loop-i.invariant.1, c.minutes_of.type_inv))
-
 pub returns : goal.returns
-returns c = c.loop-i.invariant.0 ∙ ap (cost (arcs_of c.args.chart.now)) (take_all c.loop-i.i c.args.plan.now c.loop-i-test.false)
+returns c =
+    let arcs = arcs_of c.args.chart.now in
+    let p = c.args.plan.now in
+    let chain : c.sum.result ≡ sum_by (λ a. (arc_at arcs a).minutes) p = search (rules, chains) in
+    chain ∙ cost_summed arcs p

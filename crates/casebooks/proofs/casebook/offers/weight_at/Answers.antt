@@ -1,7 +1,7 @@
-use Rattle.std.proofs.Common.{◌≤◌, get_or, nat_abs, sym, ap, ◌∙◌, subst, arith, w64}
+use Rattle.std.proofs.Common.{◌≡◌, ◌≤◌, get_or, nat_abs, Some, sym, ap, ◌∙◌, subst, arith, w64}
 use Rattle.std.proofs.lemmas.Int.{to_z-of_z}
 use Rattle.terms.specs.declared.arc.Arc.{Arc}
-use Rattle.rules.specs.Rules.{no_rule}
+use Rattle.rules.specs.Rules.{no_rule, weight_of}
 use Rattle.charts.specs.Drafts.{arcs_of}
 use Rattle.rules.proofs.Given.{weight_known, weight_within}
 use Rattle.amounts.proofs.Sizes.{within_size, fits}
@@ -14,7 +14,7 @@ returns g c =
     let w = c.in-Some-weight.weight in
     let x = c.in-Some.arc in
     let is = (arc_known (arcs_of c.args.chart.now) c.args.number x c.in-Some.ensures).1 in
-    let told = c.in-Some-weight.ensures in
+    let told : Some w ≡ weight_of us c.args.rule x.place x.route = cc (c.in-Some-weight.ensures, c.from.ensures, c.from-2.ensures) in
     let known = weight_known us c.args.rule x.place x.route w told in
     let size = within_size 10000 w (weight_within us c.args.rule x.place x.route w (g.B.Bank.within c.args.bank.now) told) in
     let pass = to_z-of_z w64 w (fits w 10000 size (omega arith)) in

@@ -1,10 +1,5 @@
-use Rattle.std.proofs.Common.{replicate, refl, inl, inr}
-use Rattle.std.proofs.lemmas.List.{get_or-replicate, get_or_past}
-use Rattle.std.proofs.lemmas.Bool.{cases_lt}
+use Rattle.piles.proofs.Marking.{filled}
 use Rattle.piles.proofs.pile.Marks.blank.Goals as goal
 
 pub returns : goal.returns
-returns c = record {
-  long = refl;
-  each = λ a. elim (cases_lt a 1024) [ inl l ↦ get_or-replicate 1024 a 0 0 l | inr h ↦ get_or_past (replicate 1024 0) a 0 h ];
-}
+returns c = filled 1024 0

@@ -1,10 +1,9 @@
-use Rattle.std.proofs.Common.{◌≡◌, ℕ, ◌<◌, ◌≤◌, length, get_or}
+use Rattle.std.proofs.Common.{◌≡◌, ℕ, ◌<◌, ◌≤◌, get_or}
 use Rattle.piles.specs.Heights.{cut_mark}
 use Rattle.piles.proofs.pile.Marks.cut.Given as goal
 
 -- the arcs behind are done, and the others as they were
 abbrev pub invariant-loop-i : goal.invariant-loop-i
 invariant-loop-i l =
-    (length l.self.at ≡ 1024)
-    × ((a : ℕ) → a < l.i → get_or l.self.at a 0 ≡ cut_mark l.arcs l.place l.routes.bits l.side l.height a (get_or l.initial.self.at a 0))
+    ((a : ℕ) → a < l.i → get_or l.self.at a 0 ≡ cut_mark l.arcs.all.now l.split.place l.split.routes.bits l.side l.height a (get_or l.initial.self.at a 0))
     × ((a : ℕ) → l.i ≤ a → get_or l.self.at a 0 ≡ get_or l.initial.self.at a 0)

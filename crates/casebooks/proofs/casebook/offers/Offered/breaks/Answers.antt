@@ -6,7 +6,7 @@ use Rattle.rules.specs.Lawful.{weighed, meets}
 use Rattle.rules.proofs.Given.{head_known, head_missing, limit_within}
 use Rattle.amounts.proofs.Sizes.{within_size}
 use Rattle.casebooks.proofs.Offers.{total_fits, total_is}
-use Rattle.casebooks.proofs.casebook.offers.breaks.Goals as goal
+use Rattle.casebooks.proofs.casebook.offers.Offered.breaks.Goals as goal
 
 pub overflow_sub-weigh : goal.overflow_sub-weigh
 overflow_sub-weigh g c =
@@ -16,7 +16,7 @@ overflow_sub-weigh g c =
 
 pub returns-in_default : goal.returns-in_default
 returns-in_default g c =
-    absurd (omega (arith, c.requires.counted, head_missing (g.B.Bank.rules c.args.bank.now) c.args.rule c.in_default.ensures))
+    absurd (omega (arith, c.requires, head_missing (g.B.Bank.rules c.args.bank.now) c.args.rule c.in_default.ensures))
 
 pub returns : goal.returns
 returns g c =
@@ -28,4 +28,4 @@ returns g c =
     let small = within_size 1000000 h.limit (limit_within us c.args.rule h (g.B.Bank.within c.args.bank.now) c.in-Some.ensures) in
     let total = total_is w h.limit c.weigh.ensures.small small in
     let worth = c.weigh.ensures.value in
-    ap not (c.meets.ensures ∙ ap (meets h.sense) (total ∙ ap (λ x. x -ℤ h.limit) worth) ∙ ap (λ (y : Head). meets y.sense (weighed (arcs_of c.args.chart.now) u c.args.plan.now -ℤ y.limit)) (sym known))
+    ap not (c.meets.ensures ∙ ap (meets h.sense) (total ∙ ap (λ x. x -ℤ h.limit) worth) ∙ ap (λ (y : Head). meets y.sense (weighed (arcs_of c.args.self.chart.now) u c.args.self.plan.now -ℤ y.limit)) (sym known))
