@@ -57,7 +57,7 @@ impl Drafting {
     }
 
     /// What a form is answered once the header was accepted.
-    fn take(&mut self, form: Form) -> Result<Step, Refusal>
+    fn go_on(&mut self, form: Form) -> Result<Step, Refusal>
         ensures reply { (f : Said) → Means form.entry f → result ≡ (on_begun (drafted_of self.old) f).answer }
         ensures left { (f : Said) → Means form.entry f → drafted_of self.new ≡ (on_begun (drafted_of self.old) f).left }
     {
@@ -88,12 +88,12 @@ impl Drafting {
     }
 
     /// What a form is answered.
-    pub fn form(&mut self, form: Form) -> Result<Step, Refusal>
+    pub fn take(&mut self, form: Form) -> Result<Step, Refusal>
         ensures reply { (f : Said) → Means form.entry f → result ≡ (on_form (drafted_of self.old) f).answer }
         ensures left { (f : Said) → Means form.entry f → drafted_of self.new ≡ (on_form (drafted_of self.old) f).left }
     {
         if self.begun {
-            self.take(form)
+            self.go_on(form)
         } else {
             self.begin(form)
         }
@@ -104,10 +104,10 @@ impl Drafting {
         ensures { Replies (on_form (drafted_of self.old)) (drafted_of self.old) line.now result (drafted_of self.new) }
     {
         if lines::is_header(line) {
-            return self.form(Form::Casebook);
+            return self.take(Form::Casebook);
         }
         match lines::read(line) {
-            Ok(form) => self.form(form),
+            Ok(form) => self.take(form),
             Err(byte) => Err(Refusal::Grammar(byte)),
         }
     }
