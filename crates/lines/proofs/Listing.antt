@@ -1,9 +1,9 @@
 -- Items, each after a blank, to the end of the line. Assumes nothing.
 use Rattle.lines.specs.Numerals.{leading}
 use Rattle.lines.specs.Laws.{number_told, some_number}
-use Rattle.std.proofs.Common.{◌≡◌, ℕ, ◌<◌, List, [], ◌∷◌, ◌++◌, length, ℤ, pos, Some, None, codes, decimal, Option, sym, refl, ap, ◌∙◌, inl, inr, append_assoc, arith, length-append}
+use Rattle.std.proofs.Common.{◌≡◌, ℕ, ◌<◌, List, [], ◌∷◌, ◌++◌, length, Some, None, codes, decimal, Option, sym, refl, ap, ◌∙◌, inl, inr, append_assoc, arith, length-append}
 use Rattle.std.specs.List.{flat_map}
-use Rattle.lines.specs.Forms.{Short, ShortPair, ShortTriple, numbers}
+use Rattle.lines.specs.Forms.{Short, numbers}
 use Rattle.lines.specs.Texts.{Halts, ahead, Tight, Open, Is, Byte, Either, Piece, Many, Others, Listed, Routes, Ends}
 use Rattle.lines.specs.Items.{Like, Told}
 use Rattle.lines.proofs.Halting.{Live, Follows, halt_wider, byte_follows, either_none, either_left, either_right, is_some, piece_none, piece_some}

@@ -1,15 +1,10 @@
 -- A number is read in one way. Assumes nothing.
-use Rattle.lines.specs.Numerals.{meet, short_fits, nought, zero_text, leading}
-use Rattle.std.proofs.Common.{◌≡◌, ℕ, zero, suc, ◌+◌, ◌-◌, ◌*◌, ◌/◌, ◌%◌, ◌^◌, ◌<◌, ◌≤◌, ◌⊎◌, List, [], ◌∷◌, ◌++◌, length, get_or, drop, ℤ, pos, negsuc, ◌-ℤ◌, decimal, sym, refl, ap, ◌∙◌, subst, inl, inr, ⊎_elim, append_assoc, append-nil, arith, length-append, w64, to_z, of_z}
-use native.Mathlib.Nat.{pow-le-pow_right}
+use Rattle.lines.specs.Numerals.{short_fits, nought, zero_text, leading}
+use Rattle.std.proofs.Common.{◌≡◌, ℕ, suc, ◌+◌, ◌-◌, ◌*◌, ◌/◌, ◌%◌, ◌^◌, ◌<◌, ◌≤◌, List, [], ◌∷◌, ◌++◌, drop, ℤ, pos, negsuc, ◌-ℤ◌, decimal, sym, ap, ◌∙◌, subst, ⊎_elim, append_assoc, arith, w64, to_z, of_z}
 use Rattle.std.proofs.lemmas.Int.{ints}
-use Rattle.std.specs.Str.Parse.{AllDigits}
 use Rattle.std.specs.Fmt.{signed_decimal}
-use Rattle.std.proofs.lemmas.Str.Parse.{digit_from_value}
-use Rattle.std.proofs.lemmas.Fmt.{decimal_is_IsNumeral, decimal_digit, decimal_step, first_decimal, length-decimal-le, decimal_injective, decimal_nonempty}
-use Rattle.std.proofs.lemmas.Int.Digits.{digits_value-lt}
+use Rattle.std.proofs.lemmas.Fmt.{decimal_digit, decimal_step, first_decimal, decimal_nonempty}
 use Rattle.std.proofs.lemmas.List.{get_or_append_left}
-use Rattle.std.proofs.lemmas.Bool.{cases_lt}
 use Rattle.lines.specs.Forms.{Short, ShortZ}
 use Rattle.lines.specs.Texts.{Digit, Tight, TightZ, ahead}
 

@@ -1,13 +1,13 @@
 -- Numbers, amounts, pairs and triples: each begins a text in one way. Assumes nothing.
-use Rattle.lines.specs.Numerals.{once, once_signed, leading}
+use Rattle.lines.specs.Numerals.{leading}
 use Rattle.lines.specs.Laws.{triple_text, amount_text, pair_text}
-use Rattle.std.proofs.Common.{◌≡◌, ℕ, suc, ◌≤◌, List, [], ◌∷◌, ◌++◌, ℤ, pos, negsuc, Some, None, decimal, Option, sym, refl, ap, ◌∙◌, subst, append_assoc, arith, w64, to_z, of_z}
+use Rattle.std.proofs.Common.{◌≡◌, ℕ, suc, ◌≤◌, List, [], ◌∷◌, ◌++◌, ℤ, pos, negsuc, Some, None, decimal, Option, sym, refl, ap, ◌∙◌, subst, arith, w64, to_z, of_z}
 use Rattle.std.proofs.lemmas.Int.{to_z-of_z}
 use Rattle.std.specs.Fmt.{signed_decimal}
 use Rattle.lines.specs.Forms.{Short, ShortZ, ShortPair, ShortTriple, number, amount, pair, triple}
 use Rattle.lines.specs.Texts.{Halts, Digit, ahead, Tight, TightZ, Free, Open, Byte, Piece, Item, Counts, Takes}
 use Rattle.lines.proofs.Numerals.{leading_most}
-use Rattle.lines.specs.Items.{Like, Told}
+use Rattle.lines.specs.Items.{Like}
 use Rattle.lines.proofs.Halting.{Live, Follows, halt_now, halt_after, halt_wider, byte_some, open_follows}
 
 -- there is a number

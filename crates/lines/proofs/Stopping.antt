@@ -1,5 +1,5 @@
 -- Where a reader stops, byte by byte and piece by piece. Assumes nothing.
-use Rattle.std.proofs.Common.{◌≡◌, ℕ, suc, ◌+◌, ◌<◌, ◌⊎◌, List, [], ◌∷◌, ◌++◌, length, take, sym, refl, subst, inl, inr, suc-add, zero-add, add-one, arith}
+use Rattle.std.proofs.Common.{ℕ, suc, ◌+◌, ◌<◌, List, [], ◌∷◌, ◌++◌, length, take, sym, refl, subst, suc-add, zero-add, add-one, arith}
 use Rattle.lines.specs.Texts.{Stops}
 use Rattle.lines.specs.Items.{Like}
 

@@ -36,6 +36,6 @@ abbrev pub Next : {X C : Type 0} → (List X → C → Type 0) → List X → Op
 Next Holds xs None c = (xs ≡ []) × Holds xs c
 Next Holds xs (Some x) c = First Holds xs x c
 
--- whatever items the cursor c holds, that is what `next` answers, and what the cursor d then holds
-abbrev pub Yields : {X : Type 0} → (X → Type 0) → (List X → List ℕ → Type 0) → Items X → Option X → Items X → Type 0
-Yields {X} ok laid c o d = (xs : List X) → Holds ok laid xs c → Next (Holds ok laid) xs o d
+-- `next` answers o from the cursor c and leaves the cursor d: whatever items c holds, that is as it has to be
+pub record Gives {X : Type 0} (ok : X → Type 0) (laid : List X → List ℕ → Type 0) (c : Items X) (o : Option X) (d : Items X) : Type 0 where
+  pub at : (xs : List X) → Holds ok laid xs c → Next (Holds ok laid) xs o d

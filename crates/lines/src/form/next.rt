@@ -1,7 +1,7 @@
 //! The items of a form, one after another.
 ghost use Rattle.std.specs.Prelude.{◌≡◌, length};
 ghost use Rattle.std.specs.Iterator.{at_most};
-ghost use Rattle.lines.specs.Cursors.{Yields};
+ghost use Rattle.lines.specs.Cursors.{Gives};
 
 use super::Items;
 use crate::item::LineItem;
@@ -23,7 +23,7 @@ impl<'a, T> Items<'a, T> {
 impl<'a, T: LineItem> Iterator for Items<'a, T> {
     type Item = T;
 
-    ghost next_gives = { Yields T.short T.laid };
+    ghost next_gives = { Gives T.short T.laid };
 
     ghost remaining = { λ c. at_most (length c.text.now) };
 

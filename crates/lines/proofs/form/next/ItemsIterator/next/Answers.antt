@@ -1,5 +1,5 @@
 use Rattle.std.proofs.Common.{drop, ap, ◌∙◌}
-use Rattle.lines.proofs.Yielding.{none_read, one_read, less_left}
+use Rattle.lines.proofs.Yielding.{none_read, one_read}
 use Rattle.lines.proofs.form.next.ItemsIterator.next.Goals as goal
 
 pub returns-in_err-item-clause-steps : goal.returns-in_err-item-clause-steps
