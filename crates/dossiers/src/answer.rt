@@ -1,11 +1,23 @@
 //! What a line is answered.
+ghost use Rattle.std.specs.Prelude.{◌≡◌, ◌≤◌, take};
+
 use terms::verdict::Verdict;
 
-/// The arcs of a plan, in the first places of the array.
+/// The arcs of a plan. An answer is copied, and a vector of the kit is not: so they stand in the first places of an array.
 #[derive(Clone, Copy, Drop)]
 pub struct PlanArcs {
-    pub at: [usize; 32],
-    pub places: u8,
+    pub(crate) at: [usize; 32],
+    pub(crate) places: u8,
+    ghost few: { places ≤ 32 },
+}
+
+impl PlanArcs {
+    /// The arcs, by place.
+    pub fn all(&self) -> &[usize]
+        ensures { result.now ≡ take self.now.places self.now.at }
+    {
+        &self.at[..usize::from(self.places)]
+    }
 }
 
 /// The answer to an accepted line.

@@ -3,7 +3,7 @@ ghost use Rattle.std.specs.Prelude.{◌≡◌};
 ghost use Rattle.charts.specs.Drafts.{places_of, arcs_of};
 ghost use Rattle.judging.specs.Cases.{opened};
 ghost use Rattle.casebooks.specs.Views.{problem_of, model_in};
-ghost use Rattle.unsealed.specs.Books.{book_of, bits_in, set_in, limit_in, rules_of};
+ghost use Rattle.unsealed.specs.Books.{book_of, rules_of};
 ghost use Rattle.dossiers.specs.Opened.{rules_in};
 
 use casebooks::casebook::Casebook;
@@ -15,26 +15,6 @@ use rules::pair::Pair;
 use terms::routes::RouteSet;
 use unsealed::book::RuleBook;
 
-/// The routes of once, none where no once came.
-fn once_routes(once: Option<RouteSet>) -> RouteSet
-    ensures { result.bits ≡ set_in (bits_in once) }
-{
-    match once {
-        Some(routes) => routes,
-        None => RouteSet::none(),
-    }
-}
-
-/// The limit of budget, 0 where no budget came.
-fn budget_limit(limit: Option<i64>) -> i64
-    ensures { result ≡ limit_in limit }
-{
-    match limit {
-        Some(limit) => limit,
-        None => 0,
-    }
-}
-
 /// Opens a casebook on the sealed chart and the rules of a dossier: once, then order, then budget.
 pub fn open<'a>(
     chart: Chart,
@@ -43,8 +23,8 @@ pub fn open<'a>(
     ensures judges { problem_of result.desk (rules_in result.bank) ≡ record { places = places_of chart; arcs = arcs_of chart; rules = rules_of (book_of book.now) } }
     ensures model { model_in result ≡ opened (problem_of result.desk (rules_in result.bank)) }
 {
-    let once = Once::new(once_routes(book.once));
-    let order = Order::new(&book.pairs.at[0..book.pairs.count]);
-    let budget = Budget::new(budget_limit(book.limit), &book.entries.at);
+    let once = Once::new(book.once.unwrap_or(RouteSet::none()));
+    let order = Order::new(&book.pairs);
+    let budget = Budget::new(book.limit.unwrap_or(0), &book.entries);
     Casebook::open(chart, Pair::new(once, Pair::new(order, budget)))
 }

@@ -1,11 +1,11 @@
 //! A dossier after its seal: each line is a call of a casebook.
-ghost use Rattle.std.specs.Prelude.{◌≡◌, ℕ, List, take, replicate, ℤ};
+ghost use Rattle.std.specs.Prelude.{◌≡◌, ℕ, List, ℤ};
 ghost use Rattle.casebooks.specs.Views.{problem_in, model_in};
 ghost use Rattle.lines.specs.Cursors.{HoldsNumbers, HoldsPairs};
 ghost use Rattle.lines.specs.Forms.{Form as Said, Price, Sample, Strike, Split, Close, Offer};
 ghost use Rattle.lines.specs.Readings.{Means};
 ghost use Rattle.unsealed.specs.Replies.{Replies};
-ghost use Rattle.dossiers.specs.Tolds.{replied_by, count_told, amount_told, plan_told};
+ghost use Rattle.dossiers.specs.Tolds.{replied_by};
 ghost use Rattle.dossiers.specs.Works.{on_work};
 ghost use Rattle.dossiers.specs.Dossiers.{on_stage, stage_of, unread, Leads, Judged};
 
@@ -18,63 +18,15 @@ use rules::bank::Bank;
 use terms::refusal::Refusal;
 use unsealed::items::route_set;
 
-/// A buffer for a plan, long enough for every chart.
-fn buffer() -> [usize; 32]
-    ensures { result ≡ replicate 32 0 }
-{
-    [0; 32]
-}
-
-/// A count, told to a line.
-fn tell_count(answer: Result<usize, Refusal>) -> Result<Answer, Refusal>
-    ensures { replied_by result ≡ count_told answer }
-{
-    match answer {
-        Ok(n) => Ok(Answer::Count(n)),
-        Err(refusal) => Err(refusal),
-    }
-}
-
-/// A cost, told to a line.
-fn tell_cost(answer: Result<u32, Refusal>) -> Result<Answer, Refusal>
-    ensures { replied_by result ≡ count_told answer }
-{
-    match answer {
-        Ok(cost) => Ok(Answer::Count(cost as usize)),
-        Err(refusal) => Err(refusal),
-    }
-}
-
-/// An amount if a plan stands, told to a line.
-fn tell_amount(answer: Result<Option<i64>, Refusal>) -> Result<Answer, Refusal>
-    ensures { replied_by result ≡ amount_told answer }
-{
-    match answer {
-        Ok(Some(amount)) => Ok(Answer::Amount(amount)),
-        Ok(None) => Ok(Answer::NoPlan),
-        Err(refusal) => Err(refusal),
-    }
-}
-
-/// A plan if one stands, told to a line: it is in the first places of a buffer.
-fn tell_plan(answer: Result<bool, Refusal>, at: [usize; 32], places: u8) -> Result<Answer, Refusal>
-    ensures { replied_by result ≡ plan_told (take places at) answer }
-{
-    match answer {
-        Ok(true) => Ok(Answer::Plan(PlanArcs { at, places })),
-        Ok(false) => Ok(Answer::NoPlan),
-        Err(refusal) => Err(refusal),
-    }
-}
-
 /// The least amount with the multipliers that a line names.
 fn price<B: Bank>(book: &Casebook<B>, items: PairItems) -> Result<Answer, Refusal>
     ensures reply { (xs : List (ℕ × ℤ)) → HoldsPairs xs items.entry → replied_by result ≡ (on_work (problem_in B.Bank book.now) (model_in book.now) (Price xs)).answer }
     ensures left { (xs : List (ℕ × ℤ)) → HoldsPairs xs items.entry → model_in book.now ≡ (on_work (problem_in B.Bank book.now) (model_in book.now) (Price xs)).left }
 {
     let multipliers = Multipliers::read(items, book.rule_count())?;
-    let mut plan = buffer();
-    tell_amount(book.price(multipliers.all(), &mut plan))
+    let mut plan = [0; 32];
+    let answer = book.price(multipliers.all(), &mut plan);
+    answer.map(|amount| amount.map_or(Answer::NoPlan, Answer::Amount))
 }
 
 /// The first plan that stands.
@@ -82,9 +34,13 @@ fn sample<B: Bank>(book: &Casebook<B>) -> Result<Answer, Refusal>
     ensures reply { replied_by result ≡ (on_work (problem_in B.Bank book.now) (model_in book.now) Sample).answer }
     ensures left { model_in book.now ≡ (on_work (problem_in B.Bank book.now) (model_in book.now) Sample).left }
 {
-    let mut at = buffer();
-    let answer = book.sample(&mut at);
-    tell_plan(answer, at, book.places())
+    let mut at = [0; 32];
+    if book.sample(&mut at)? {
+        let places = book.places();
+        Ok(Answer::Plan(PlanArcs { at, places }))
+    } else {
+        Ok(Answer::NoPlan)
+    }
 }
 
 /// Strikes with the multipliers that a line names.
@@ -94,7 +50,7 @@ fn strike<B: Bank>(book: &mut Casebook<B>, items: PairItems) -> Result<Answer, R
     ensures same { problem_in B.Bank book.new ≡ problem_in B.Bank book.old }
 {
     let multipliers = Multipliers::read(items, book.rule_count())?;
-    tell_count(book.strike(multipliers.all()))
+    book.strike(multipliers.all()).map(Answer::Count)
 }
 
 /// Closes with the multipliers that a line names.
@@ -104,7 +60,7 @@ fn close<B: Bank>(book: &mut Casebook<B>, items: PairItems) -> Result<Answer, Re
     ensures same { problem_in B.Bank book.new ≡ problem_in B.Bank book.old }
 {
     let multipliers = Multipliers::read(items, book.rule_count())?;
-    tell_count(book.close(multipliers.all()))
+    book.close(multipliers.all()).map(Answer::Count)
 }
 
 /// Splits at a place by the routes of a line.
@@ -114,7 +70,7 @@ fn split<B: Bank>(book: &mut Casebook<B>, place: u64, items: NumberItems) -> Res
     ensures same { problem_in B.Bank book.new ≡ problem_in B.Bank book.old }
 {
     let routes = route_set(items)?;
-    tell_count(book.split(place, routes))
+    book.split(place, routes).map(Answer::Count)
 }
 
 /// Offers the arcs of a line. Of more arcs than any chart has places only so many are looked at that the offer is refused for
@@ -126,21 +82,22 @@ fn offer<B: Bank>(book: &mut Casebook<B>, items: NumberItems) -> Result<Answer, 
 {
     let _ = book.places();
     let arcs = OfferedArcs::read(items);
-    tell_cost(book.offer(arcs.all()))
+    book.offer(arcs.all())
+        .map(|cost| Answer::Count(cost as usize))
 }
 
 /// What a form is answered.
-fn take<B: Bank>(book: &mut Casebook<B>, form: Form) -> Result<Answer, Refusal>
+pub fn take<B: Bank>(book: &mut Casebook<B>, form: Form) -> Result<Answer, Refusal>
     ensures reply { (f : Said) → Means form.entry f → replied_by result ≡ (on_work (problem_in B.Bank book.old) (model_in book.old) f).answer }
     ensures left { (f : Said) → Means form.entry f → model_in book.new ≡ (on_work (problem_in B.Bank book.old) (model_in book.old) f).left }
     ensures same { problem_in B.Bank book.new ≡ problem_in B.Bank book.old }
 {
     match form {
-        Form::Claim(minutes) => tell_count(book.claim(minutes)),
+        Form::Claim(minutes) => book.claim(minutes).map(Answer::Count),
         Form::Price(items) => price(book, items),
         Form::Sample => sample(book),
         Form::Strike(items) => strike(book, items),
-        Form::Trim => tell_count(book.trim()),
+        Form::Trim => book.trim().map(Answer::Count),
         Form::Split(place, items) => split(book, place, items),
         Form::Close(items) => close(book, items),
         Form::Offer(items) => offer(book, items),

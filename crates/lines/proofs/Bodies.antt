@@ -1,4 +1,5 @@
 -- What may follow a number or a word. Assumes nothing.
+use Rattle.lines.specs.Laws.{number_told, pair_told, triple_told, some_number, some_pair, some_triple}
 use Rattle.std.proofs.Common.{[], codes, arith}
 use Rattle.std.specs.Fmt.{signed_decimal}
 use Rattle.lines.specs.declared.word.Word.{Word}
@@ -7,8 +8,8 @@ use Rattle.lines.specs.Forms.{ShortZ}
 use Rattle.lines.specs.Texts.{Item, Piece, Pairs, Triples, Numbers, Routes}
 use Rattle.lines.specs.Words.{Ending, Body}
 use Rattle.lines.proofs.Halting.{Live, Follows, byte_follows, is_follows}
-use Rattle.lines.proofs.Pieces.{item_follows, number_told, pair_told, triple_told, signed_live}
-use Rattle.lines.proofs.Listing.{many_follows, some_number, some_pair, some_triple, routes_follows}
+use Rattle.lines.proofs.Pieces.{item_follows, signed_live}
+use Rattle.lines.proofs.Listing.{many_follows, routes_follows}
 
 -- the bracket that ends a form
 pub ending : Follows Ending

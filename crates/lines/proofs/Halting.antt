@@ -1,8 +1,10 @@
 -- Where a reader halts: at a byte, at a piece, and after one. Assumes nothing.
+use Rattle.lines.specs.Numerals.{meet}
 use Rattle.std.proofs.Common.{◌≡◌, ℕ, ◌+◌, ◌⊎◌, List, [], ◌∷◌, ◌++◌, length, take, drop, sym, refl, ap, ◌∙◌, subst, inl, inr, append_assoc, append-nil, arith, take-append-drop}
 use lib.Seq.{drop-append-add}
 use Rattle.lines.specs.Texts.{Halts, Digit, ahead, Open, Is, Byte, Either, Piece}
-use Rattle.lines.proofs.Stopping.{Like, stop_now, stop_after, meet}
+use Rattle.lines.specs.Items.{Like, Told}
+use Rattle.lines.proofs.Stopping.{stop_now, stop_after}
 
 -- M has a text
 abbrev pub Live : (List ℕ → Type 0) → Type 0
@@ -103,12 +105,6 @@ module _ (a b : ℕ) (M N : List ℕ → Type 0) (l l₁ rest : List ℕ) (apart
       go : (t : List ℕ) → Like l t → Either (Byte a M) (Byte b N) t → Byte b N t
       go t like (inl m) = absurd (apart (sym (ap ahead m.2) ∙ like ∙ ap ahead e))
       go t like (inr m) = m
-
--- a text begins with at most one x, where no digit follows the one and the other is tight
-pub record Told {X : Type 0} (text : X → List ℕ) (ok : X → Type 0) (tight : X → List ℕ → Type 0) : Type 0 where
-  pub once : (x y : X) (u t : List ℕ) → ok x → ok y → Open u → tight y t → text x ++ u ≡ text y ++ t → (x ≡ y) × (u ≡ t)
-  pub like : (x : X) (l t : List ℕ) → Like l t → tight x l → tight x t
-  pub loose : (x : X) (l : List ℕ) → Open l → tight x l
 
 module _ {X : Type 0} {text : X → List ℕ} {ok : X → Type 0} {tight : X → List ℕ → Type 0} (told : Told text ok tight) {N : X → List ℕ → Type 0} (fol : (x : X) → Follows (N x)) where
   -- what follows a piece begins with no digit

@@ -10,4 +10,5 @@ pub mod Forming
 pub mod Holding
 pub mod Placing
 pub mod Yielding
+pub mod Turns
 pub mod Unique

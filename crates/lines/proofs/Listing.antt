@@ -1,12 +1,12 @@
 -- Items, each after a blank, to the end of the line. Assumes nothing.
-use Rattle.std.proofs.Common.{◌≡◌, ℕ, ◌<◌, List, [], ◌∷◌, ◌++◌, length, ℤ, pos, Some, None, codes, decimal, Option, sym, refl, ap, ◌∙◌, inl, inr, append_assoc, arith, length-append}
+use Rattle.lines.specs.Numerals.{leading}
+use Rattle.lines.specs.Laws.{number_told, some_number}
+use Rattle.std.proofs.Common.{◌≡◌, ℕ, ◌<◌, List, [], ◌∷◌, ◌++◌, length, Some, None, codes, decimal, Option, sym, refl, ap, ◌∙◌, inl, inr, append_assoc, arith, length-append}
 use Rattle.std.specs.List.{flat_map}
-use Rattle.lines.specs.Forms.{Short, ShortPair, ShortTriple, numbers}
+use Rattle.lines.specs.Forms.{Short, numbers}
 use Rattle.lines.specs.Texts.{Halts, ahead, Tight, Open, Is, Byte, Either, Piece, Many, Others, Listed, Routes, Ends}
-use Rattle.lines.proofs.Stopping.{Like}
-use Rattle.lines.proofs.Numerals.{leading}
-use Rattle.lines.proofs.Halting.{Live, Follows, Told, halt_wider, byte_follows, either_none, either_left, either_right, is_some, piece_none, piece_some}
-use Rattle.lines.proofs.Pieces.{number_told}
+use Rattle.lines.specs.Items.{Like, Told}
+use Rattle.lines.proofs.Halting.{Live, Follows, halt_wider, byte_follows, either_none, either_left, either_right, is_some, piece_none, piece_some}
 
 -- where what is left halts, the whole halts; where what is left is of M, the whole is
 pub record Goes (M : List ℕ → Type 0) (l l' : List ℕ) : Type 0 where
@@ -84,18 +84,6 @@ module _ {X : Type 0} {text : X → List ℕ} {ok : X → Type 0} {tight : X →
     -- the text gets shorter at each item
     pub shorter : (x : X) (l₁ l₂ : List ℕ) → l ≡ 32 ∷ l₁ → l₁ ≡ text x ++ l₂ → length l₂ < length l
     shorter x l₁ l₂ e f = omega (arith, ap length e, ap length f, length-append (text x) l₂)
-
--- some number, pair and triple
-pub some_number : (n : ℕ) × Short n
-some_number = (0, omega arith)
-
--- some pair
-pub some_pair : (x : ℕ × ℤ) × ShortPair x
-some_pair = ((0, pos 0), (omega arith, omega arith))
-
--- some triple
-pub some_triple : (x : ℕ × ℕ × ℤ) × ShortTriple x
-some_triple = ((0, 0, pos 0), (omega arith, omega arith, omega arith))
 
 -- the whole list
 abbrev First : List ℕ → Type 0

@@ -1,20 +1,14 @@
 -- Numbers, amounts, pairs and triples: each begins a text in one way. Assumes nothing.
-use Rattle.std.proofs.Common.{◌≡◌, ℕ, suc, ◌≤◌, List, [], ◌∷◌, ◌++◌, ℤ, pos, negsuc, Some, None, decimal, Option, sym, refl, ap, ◌∙◌, subst, append_assoc, arith, w64, to_z, of_z}
+use Rattle.lines.specs.Numerals.{leading}
+use Rattle.lines.specs.Laws.{triple_text, amount_text, pair_text}
+use Rattle.std.proofs.Common.{◌≡◌, ℕ, suc, ◌≤◌, List, [], ◌∷◌, ◌++◌, ℤ, pos, negsuc, Some, None, decimal, Option, sym, refl, ap, ◌∙◌, subst, arith, w64, to_z, of_z}
 use Rattle.std.proofs.lemmas.Int.{to_z-of_z}
 use Rattle.std.specs.Fmt.{signed_decimal}
 use Rattle.lines.specs.Forms.{Short, ShortZ, ShortPair, ShortTriple, number, amount, pair, triple}
 use Rattle.lines.specs.Texts.{Halts, Digit, ahead, Tight, TightZ, Free, Open, Byte, Piece, Item, Counts, Takes}
-use Rattle.lines.proofs.Stopping.{Like}
-use Rattle.lines.proofs.Numerals.{once, once_signed, leading, leading_most}
-use Rattle.lines.proofs.Halting.{Live, Follows, Told, halt_now, halt_after, halt_wider, byte_some, open_follows}
-
--- what follows one byte
-tail : (b : ℕ) (p q : List ℕ) → b ∷ p ≡ b ∷ q → p ≡ q
-tail b p q e = cc
-
--- a number
-pub number_told : Told decimal Short Tight
-number_told = record { once = once; like = λ n l t like tight d. tight (subst Digit like d); loose = λ n l bare d. absurd (bare d) }
+use Rattle.lines.proofs.Numerals.{leading_most}
+use Rattle.lines.specs.Items.{Like}
+use Rattle.lines.proofs.Halting.{Live, Follows, halt_now, halt_after, halt_wider, byte_some, open_follows}
 
 -- there is a number
 pub number_live : (N : List ℕ → Type 0) → Live N → Live (Piece decimal Short (λ _. N))
@@ -28,17 +22,10 @@ number_none N l live bar = halt_now _ l (number_live N live) (λ t like m. bar (
 pub number_halts : {l rest : List ℕ} → (rest ≡ l) × Open l → Halts (Piece decimal Short (λ _. Open)) l rest
 number_halts {l} {rest} (same, bar) = subst (Halts (Piece decimal Short (λ _. Open)) l) (sym same) (number_none Open l open_follows.live bar)
 
--- a signed number
-pub signed_told : Told signed_decimal ShortZ TightZ
-signed_told = record { once = once_signed; like = go; loose = bare }
-  where
-    go : (z : ℤ) (l t : List ℕ) → Like l t → TightZ z l → TightZ z t
-    go (pos n) l t like tight = λ d. tight (subst Digit like d)
-    go (negsuc n) l t like tight = λ d. tight (subst Digit like d)
-
-    bare : (z : ℤ) (l : List ℕ) → Open l → TightZ z l
-    bare (pos n) l o = λ d. absurd (o d)
-    bare (negsuc n) l o = λ d. absurd (o d)
+-- what `number` answers, as the answer of a reader of pieces
+pub number_takes : (l rest : List ℕ) (o : Option ℕ) → Counts l o rest → Takes decimal Short Tight l o rest
+number_takes l rest None h = number_halts h
+number_takes l rest (Some n) h = h
 
 -- there is a signed number
 pub signed_live : (N : List ℕ → Type 0) → Live N → Live (Piece signed_decimal ShortZ (λ _. N))
@@ -69,10 +56,6 @@ minus_none N l l₁ live e bar = subst (λ x. Halts Signed x l₁) (sym e) (halt
         let first = leading_most (suc n) u (omega arith) short in
         bar (omega (arith, like, ap ahead e')) (omega (arith, like, ap ahead e'))
 
--- a number after a blank
-pub item_told : Told number Short Tight
-item_told = record { once = λ m n u t hm hn bare tight e. once m n u t hm hn bare tight (tail 32 _ _ e); like = number_told.like; loose = number_told.loose }
-
 -- a number after a blank may stand after a number
 pub item_follows : (N : List ℕ → Type 0) → Live N → Follows (Item N)
 item_follows N (t, n) = record { live = (number 0 ++ t, (0, t, omega arith, n, refl)); un = λ t m d. omega (arith, ap ahead m.4) }
@@ -91,24 +74,6 @@ as_item N {l} {rest} h = halt_wider (Byte 32 (Piece decimal Short (λ _. N))) (I
 pub item_takes : (o : Option ℕ) (l l₁ rest : List ℕ) → l ≡ 32 ∷ l₁ → Counts l₁ o rest → Takes number Short Tight l o rest
 item_takes None l l₁ rest e h = as_item Open (byte_some e (number_halts h))
 item_takes (Some n) l l₁ rest e (short, f, tight) = (short, e ∙ ap (λ x. 32 ∷ x) f, tight)
-
--- an amount
-amount_text : (z : ℤ) (u : List ℕ) → amount z ++ u ≡ 32 ∷ (signed_decimal z ++ (41 ∷ u))
-amount_text z u = ap (λ t. 32 ∷ t) (append_assoc (signed_decimal z) (41 ∷ []) u)
-
--- no digit follows where the bracket does
-tight_close : (z : ℤ) (t : List ℕ) → TightZ z (41 ∷ t)
-tight_close (pos n) t = λ d. absurd (omega arith)
-tight_close (negsuc n) t = λ d. absurd (omega arith)
-
--- a text begins with one amount
-pub amount_told_lem : Told amount ShortZ Free
-amount_told_lem = record { once = one; like = λ x l t like f. f; loose = λ x l o. tt }
-  where
-    one : (y z : ℤ) (u t : List ℕ) → ShortZ y → ShortZ z → Open u → Free z t → amount y ++ u ≡ amount z ++ t → (y ≡ z) × (u ≡ t)
-    one y z u t hy hz bare f e =
-        let o = once_signed y z (41 ∷ u) (41 ∷ t) hy hz (λ d. omega arith) (tight_close z t) (tail 32 _ _ (sym (amount_text y u) ∙ e ∙ amount_text z t)) in
-        (o.0, tail 41 _ _ o.1)
 
 -- an amount, and then a text of N
 abbrev Amount : (List ℕ → Type 0) → List ℕ → Type 0
@@ -139,20 +104,6 @@ amount_whole z l l₁ l₂ l₃ e₁ (h, e₂, _) e₃ =
     let P : ℤ → Type 0 = λ y. ShortZ y × (l ≡ amount y ++ l₃) × Unit {0} in
     subst P (sym (back z h)) (h, e₁ ∙ ap (λ x. 32 ∷ x) (e₂ ∙ ap (λ x. signed_decimal z ++ x) e₃) ∙ sym (amount_text z l₃), tt)
 
--- a pair
-pub pair_text : (n : ℕ) (z : ℤ) (u : List ℕ) → pair (n, z) ++ u ≡ 40 ∷ (decimal n ++ (amount z ++ u))
-pair_text n z u = ap (λ t. 40 ∷ t) (append_assoc (decimal n) (amount z) u)
-
--- a text begins with one pair
-pub pair_told : Told pair ShortPair Free
-pair_told = record { once = one; like = λ x l t like f. f; loose = λ x l o. tt }
-  where
-    one : (x y : ℕ × ℤ) (u t : List ℕ) → ShortPair x → ShortPair y → Open u → Free y t → pair x ++ u ≡ pair y ++ t → (x ≡ y) × (u ≡ t)
-    one (m, y) (n, z) u t (hm, hy) (hn, hz) bare f e =
-        let a = once m n (amount y ++ u) (amount z ++ t) hm hn (λ d. omega arith) (λ d. absurd (omega arith)) (tail 40 _ _ (sym (pair_text m y u) ∙ e ∙ pair_text n z t)) in
-        let b = amount_told_lem.once y z u t hy hz bare tt a.1 in
-        ((λ i. (a.0 i, b.0 i)), b.1)
-
 -- a bracket, a number and an amount
 pub as_pair : (N : List ℕ → Type 0) {l rest : List ℕ} → Halts (Byte 40 (Piece decimal Short (λ _. Amount N))) l rest → Halts (Piece pair ShortPair (λ _. N)) l rest
 as_pair N {l} {rest} h = halt_wider (Byte 40 (Piece decimal Short (λ _. Amount N))) (Piece pair ShortPair (λ _. N)) l rest into (λ t like m. out t m) h
@@ -168,21 +119,6 @@ pub pair_whole : (n : ℕ) (z : ℤ) (l l₁ l₂ l₃ : List ℕ) → l ≡ 40 
 pair_whole n z l l₁ l₂ l₃ e₁ (hn, e₂, _) (hz, e₃, _) =
     let P : ℤ → Type 0 = λ y. ShortPair (n, y) × (l ≡ pair (n, y) ++ l₃) × Unit {0} in
     subst P (sym (back z hz)) ((hn, hz), e₁ ∙ ap (λ x. 40 ∷ x) (e₂ ∙ ap (λ x. decimal n ++ x) e₃) ∙ sym (pair_text n z l₃), tt)
-
--- a triple
-pub triple_text : (m n : ℕ) (z : ℤ) (u : List ℕ) → triple (m, n, z) ++ u ≡ 40 ∷ (decimal m ++ (number n ++ (amount z ++ u)))
-triple_text m n z u = ap (λ t. 40 ∷ t) (append_assoc (decimal m) (number n ++ amount z) u ∙ ap (λ t. decimal m ++ t) (append_assoc (number n) (amount z) u))
-
--- a text begins with one triple
-pub triple_told : Told triple ShortTriple Free
-triple_told = record { once = one; like = λ x l t like f. f; loose = λ x l o. tt }
-  where
-    one : (x y : ℕ × ℕ × ℤ) (u t : List ℕ) → ShortTriple x → ShortTriple y → Open u → Free y t → triple x ++ u ≡ triple y ++ t → (x ≡ y) × (u ≡ t)
-    one (m, m', y) (n, n', z) u t (hm, hm', hy) (hn, hn', hz) bare f e =
-        let a = once m n (number m' ++ (amount y ++ u)) (number n' ++ (amount z ++ t)) hm hn (λ d. omega arith) (λ d. absurd (omega arith)) (tail 40 _ _ (sym (triple_text m m' y u) ∙ e ∙ triple_text n n' z t)) in
-        let b = item_told.once m' n' (amount y ++ u) (amount z ++ t) hm' hn' (λ d. omega arith) (λ d. absurd (omega arith)) a.1 in
-        let c = amount_told_lem.once y z u t hy hz bare tt b.1 in
-        ((λ i. (a.0 i, b.0 i, c.0 i)), c.1)
 
 -- a bracket, two numbers and an amount
 pub as_triple : (N : List ℕ → Type 0) {l rest : List ℕ} → Halts (Byte 40 (Piece decimal Short (λ _. Item (Amount N)))) l rest → Halts (Piece triple ShortTriple (λ _. N)) l rest

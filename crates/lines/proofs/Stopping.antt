@@ -1,10 +1,7 @@
 -- Where a reader stops, byte by byte and piece by piece. Assumes nothing.
-use Rattle.std.proofs.Common.{◌≡◌, ℕ, suc, ◌+◌, ◌<◌, ◌⊎◌, List, [], ◌∷◌, ◌++◌, length, take, sym, refl, subst, inl, inr, suc-add, zero-add, add-one, arith}
-use Rattle.lines.specs.Texts.{Stops, ahead}
-
--- t begins as l does
-abbrev pub Like : List ℕ → List ℕ → Type 0
-Like l t = ahead t ≡ ahead l
+use Rattle.std.proofs.Common.{ℕ, suc, ◌+◌, ◌<◌, List, [], ◌∷◌, ◌++◌, length, take, sym, refl, subst, suc-add, zero-add, add-one, arith}
+use Rattle.lines.specs.Texts.{Stops}
+use Rattle.lines.specs.Items.{Like}
 
 -- no text of M begins as l does
 pub stop_now : (M : List ℕ → Type 0) (l : List ℕ) → ((t : List ℕ) × M t) → ((t : List ℕ) → Like l t → M t → ⊥) → Stops M l 0
@@ -39,16 +36,3 @@ stop_after M N [] l k s back forth = subst (Stops M l) (sym (zero-add k)) (recor
 stop_after M N (b ∷ p) l k s back forth =
     subst (Stops M (b ∷ (p ++ l))) (sym (suc-add (length p) k))
     (stop_byte M (λ t. M (b ∷ t)) b (p ++ l) (length p + k) (stop_after (λ t. M (b ∷ t)) N p l k s back forth) (λ t m. m) (λ t h m. m))
-
--- two ways to cut one list
-pub meet : (p t q u : List ℕ) → p ++ t ≡ q ++ u → ((v : List ℕ) × (q ≡ p ++ v) × (t ≡ v ++ u)) ⊎ ((v : List ℕ) × (p ≡ q ++ v) × (u ≡ v ++ t))
-meet [] t q u e = inl (q, refl, e)
-meet (b ∷ p) t [] u e = inr (b ∷ p, refl, sym e)
-meet (b ∷ p) t (c ∷ q) u e = go (meet p t q u (cc))
-  where
-    same : b ≡ c
-    same = cc
-
-    go : (((v : List ℕ) × (q ≡ p ++ v) × (t ≡ v ++ u)) ⊎ ((v : List ℕ) × (p ≡ q ++ v) × (u ≡ v ++ t))) → ((v : List ℕ) × (c ∷ q ≡ (b ∷ p) ++ v) × (t ≡ v ++ u)) ⊎ ((v : List ℕ) × (b ∷ p ≡ (c ∷ q) ++ v) × (u ≡ v ++ t))
-    go (inl (v, x, y)) = inl (v, cc, y)
-    go (inr (v, x, y)) = inr (v, cc, y)

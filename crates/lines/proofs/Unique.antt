@@ -1,4 +1,6 @@
 -- A line is read in one way. Assumes nothing.
+use Rattle.lines.specs.Numerals.{leading}
+use Rattle.lines.specs.Laws.{number_told, item_told, signed_told, pair_told, triple_told, open_many}
 use Rattle.std.proofs.Common.{◌≡◌, ℕ, ◌<◌, ◌≤◌, ◌⊎◌, List, [], ◌∷◌, ◌++◌, take, drop, codes, decimal, sym, refl, ap, ◌∙◌, subst, inl, inr, append_assoc, arith, take-append-drop}
 use Rattle.std.specs.List.{flat_map, AllByRecursion}
 use Rattle.std.proofs.lemmas.Bool.{cases_lt}
@@ -8,14 +10,12 @@ use Rattle.lines.specs.Forms.{Form, Casebook, Places, Arc, Once, Order, Budget, 
 use Rattle.lines.specs.Texts.{ahead, Item, Many, Listed}
 use Rattle.lines.specs.Words.{headed, Body, Ending}
 use Rattle.lines.specs.Impossible.{Begins, FirstImpossible, OneReading}
-use Rattle.lines.proofs.Numerals.{leading}
-use Rattle.lines.proofs.Halting.{Told, piece_once}
-use Rattle.lines.proofs.Pieces.{number_told, item_told, signed_told, pair_told, triple_told}
+use Rattle.lines.specs.Items.{Told}
+use Rattle.lines.proofs.Halting.{piece_once}
 use Rattle.lines.proofs.Listing.{routes_follows}
 use Rattle.lines.proofs.Bodies.{ending, one, two, three, four, triples_follow, body}
 use Rattle.lines.proofs.Wording.{word_told}
 use Rattle.lines.proofs.Forming.{made, parts}
-use Rattle.lines.proofs.Yielding.{open_many}
 
 -- what follows one byte
 tail : (b : ℕ) (p q : List ℕ) → b ∷ p ≡ b ∷ q → p ≡ q

@@ -7,7 +7,8 @@ use Rattle.lines.specs.declared.word.Word.{Word}
 use Rattle.lines.specs.declared.word.Word.TheVariants.{Casebook, Places, Arc, Once, Order, Budget, Seal, Claim, Price, Sample, Strike, Trim, Split, Close, Offer, Verdict}
 use Rattle.lines.specs.Texts.{Stops, Halts, Open, Is, Piece, Free, Ends}
 use Rattle.lines.specs.Words.{spelt, words, Any}
-use Rattle.lines.proofs.Halting.{Told, halt_after}
+use Rattle.lines.specs.Items.{Told}
+use Rattle.lines.proofs.Halting.{halt_after}
 
 -- where a word stands in the list
 place : (w : Word) → (j : ℕ) × (j < 16) × (get_or words j Casebook ≡ w)

@@ -1,6 +1,9 @@
 pub mod Forms
 pub mod Impossible
 pub mod Texts
+pub mod Items
 pub mod Words
 pub mod Cursors
 pub mod Readings
+pub mod Numerals
+pub mod Laws

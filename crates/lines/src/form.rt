@@ -1,25 +1,24 @@
 //! A form as it is read: numbers by value, and lists as cursors over the line.
 mod next;
 
+use std::marker::PhantomData;
 use terms::arc::NewArc;
 
-/// Numbers of a line, still as text. Routes stand in brackets of their own, the arcs of an offer do not.
+/// Items of a line, still as text.
 #[derive(Clone, Copy)]
-pub struct NumberItems<'a> {
+pub struct Items<'a, T> {
     pub(crate) text: &'a [u8],
+    item: PhantomData<T>,
 }
 
-/// Pairs (rule, multiplier) of a line, still as text.
-#[derive(Clone, Copy)]
-pub struct PairItems<'a> {
-    pub(crate) text: &'a [u8],
-}
+/// Numbers. Routes stand in brackets of their own, the arcs of an offer do not.
+pub type NumberItems<'a> = Items<'a, u64>;
 
-/// Triples (place, route, weight) of a line, still as text.
-#[derive(Clone, Copy)]
-pub struct TripleItems<'a> {
-    pub(crate) text: &'a [u8],
-}
+/// Pairs (rule, multiplier).
+pub type PairItems<'a> = Items<'a, (u64, i64)>;
+
+/// Triples (place, route, weight).
+pub type TripleItems<'a> = Items<'a, (u64, u64, i64)>;
 
 /// What a line says.
 #[derive(Clone, Copy)]

@@ -2,6 +2,7 @@
 #![tactic(auto)]
 
 pub mod form;
+mod item;
 mod reader;
 mod word;
 

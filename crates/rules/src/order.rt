@@ -7,7 +7,7 @@ use crate::bank::{Bank, capped, on_grid};
 use terms::rule::{Head, Sense};
 
 /// Two routes, of which `earlier` is to be tested before `later`. They may be any numbers.
-#[derive(Clone, Copy, Drop)]
+#[derive(Clone, Copy, Default, Drop)]
 pub struct Precedence {
     pub earlier: u8,
     pub later: u8,

@@ -1,5 +1,5 @@
 -- The rules that a dossier drafts: what they are, and the forms that add to them. Assumes nothing.
-use Rattle.std.specs.Prelude.{ℕ, ◌||◌, List, [], ◌∷◌, ◌++◌, length, take, replicate, ℤ, pos, is_some, Some, None, Ok, Option, nat_le}
+use Rattle.std.specs.Prelude.{ℕ, ◌||◌, List, [], ◌∷◌, ◌++◌, length, replicate, ℤ, pos, is_some, Some, None, Ok, Option, nat_le}
 use Rattle.terms.specs.declared.refusal.Refusal.{Refusal}
 use Rattle.terms.specs.declared.refusal.Refusal.TheVariants.{NotHere, PlaceRange, RouteRange}
 use Rattle.terms.specs.declared.routes.RouteSet.{RouteSet}
@@ -29,7 +29,7 @@ bits_in None = None
 bits_in (Some s) = Some s.bits
 
 abbrev pub book_of : RuleBook → Book
-book_of b = record { once = bits_in b.once; pairs = take b.pairs.count b.pairs.at; limit = b.limit; table = b.entries.at }
+book_of b = record { once = bits_in b.once; pairs = b.pairs.items; limit = b.limit; table = b.entries }
 
 -- the set of once, empty where no once came
 abbrev pub set_in : Option ℕ → ℕ

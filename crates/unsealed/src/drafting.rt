@@ -5,7 +5,7 @@ ghost use Rattle.lines.specs.Forms.{Form as Said};
 ghost use Rattle.lines.specs.Readings.{Means};
 ghost use Rattle.unsealed.specs.Books.{book_of};
 ghost use Rattle.unsealed.specs.Replies.{Replies};
-ghost use Rattle.unsealed.specs.Stages.{drafted_of, new_drafted, counted, on_places, on_begun, on_unbegun, on_form};
+ghost use Rattle.unsealed.specs.Stages.{drafted_of, new_drafted, on_places, on_begun, on_unbegun, on_form};
 
 use crate::book::RuleBook;
 use charts::chart::{Chart, Draft};
@@ -19,16 +19,6 @@ pub enum Step {
     Counts(usize),
     /// The draft is to be sealed.
     Seals,
-}
-
-/// An answer that counts.
-fn count(answer: Result<usize, Refusal>) -> Result<Step, Refusal>
-    ensures { result ≡ counted answer }
-{
-    match answer {
-        Ok(n) => Ok(Step::Counts(n)),
-        Err(refusal) => Err(refusal),
-    }
 }
 
 /// A dossier that is still drafted: whether its header was accepted, its chart and its rules so far.
@@ -67,56 +57,58 @@ impl Drafting {
     }
 
     /// What a form is answered once the header was accepted.
-    fn take(&mut self, form: Form) -> Result<Step, Refusal>
+    fn go_on(&mut self, form: Form) -> Result<Step, Refusal>
         ensures reply { (f : Said) → Means form.entry f → result ≡ (on_begun (drafted_of self.old) f).answer }
         ensures left { (f : Said) → Means form.entry f → drafted_of self.new ≡ (on_begun (drafted_of self.old) f).left }
     {
         match form {
             Form::Places(n) => self.places(n),
-            Form::Arc(new) => count(self.draft.arc(new)),
-            Form::Once(items) => count(self.book.once(items)),
-            Form::Order(earlier, later) => count(self.book.order(earlier, later)),
+            Form::Arc(new) => self.draft.arc(new).map(Step::Counts),
+            Form::Once(items) => self.book.once(items).map(Step::Counts),
+            Form::Order(earlier, later) => self.book.order(earlier, later).map(Step::Counts),
             Form::Budget(limit, items) => {
                 let places = self.draft.place_count();
-                count(self.book.budget(places, limit, items))
+                self.book.budget(places, limit, items).map(Step::Counts)
             }
             Form::Seal => Ok(Step::Seals),
             _ => Err(Refusal::NotHere),
         }
     }
 
-    /// What a line is answered once the header was accepted.
-    fn go_on(&mut self, line: &[u8]) -> Result<Step, Refusal>
-        ensures { Replies (on_begun (drafted_of self.old)) (drafted_of self.old) line.now result (drafted_of self.new) }
+    /// What a form is answered until the header is accepted: only the header is allowed.
+    fn begin(&mut self, form: Form) -> Result<Step, Refusal>
+        ensures reply { (f : Said) → Means form.entry f → result ≡ (on_unbegun (drafted_of self.old) f).answer }
+        ensures left { (f : Said) → Means form.entry f → drafted_of self.new ≡ (on_unbegun (drafted_of self.old) f).left }
     {
-        match lines::read(line) {
-            Ok(form) => self.take(form),
-            Err(byte) => Err(Refusal::Grammar(byte)),
+        let Form::Casebook = form else {
+            return Err(Refusal::NotHere);
+        };
+        self.begun = true;
+        Ok(Step::Counts(0))
+    }
+
+    /// What a form is answered.
+    pub fn take(&mut self, form: Form) -> Result<Step, Refusal>
+        ensures reply { (f : Said) → Means form.entry f → result ≡ (on_form (drafted_of self.old) f).answer }
+        ensures left { (f : Said) → Means form.entry f → drafted_of self.new ≡ (on_form (drafted_of self.old) f).left }
+    {
+        if self.begun {
+            self.go_on(form)
+        } else {
+            self.begin(form)
         }
     }
 
-    /// What a line is answered until the header is accepted: only the header, which is a fixed text, is allowed.
-    fn begin(&mut self, line: &[u8]) -> Result<Step, Refusal>
-        ensures { Replies (on_unbegun (drafted_of self.old)) (drafted_of self.old) line.now result (drafted_of self.new) }
-    {
-        if lines::is_header(line) {
-            self.begun = true;
-            return Ok(Step::Counts(0));
-        }
-        match lines::read(line) {
-            Ok(_) => Err(Refusal::NotHere),
-            Err(byte) => Err(Refusal::Grammar(byte)),
-        }
-    }
-
-    /// What a line is answered.
+    /// What a line is answered. The header is a fixed text.
     pub fn line(&mut self, line: &[u8]) -> Result<Step, Refusal>
         ensures { Replies (on_form (drafted_of self.old)) (drafted_of self.old) line.now result (drafted_of self.new) }
     {
-        if self.begun {
-            self.go_on(line)
-        } else {
-            self.begin(line)
+        if lines::is_header(line) {
+            return self.take(Form::Casebook);
+        }
+        match lines::read(line) {
+            Ok(form) => self.take(form),
+            Err(byte) => Err(Refusal::Grammar(byte)),
         }
     }
 

@@ -1,12 +1,13 @@
 //! What follows the word of a form, to the end of the line.
 ghost use Rattle.std.specs.Prelude.{◌≡◌, ℕ, List, ◌∷◌, ◌++◌, codes, MatchOption};
 ghost use Rattle.lines.specs.Forms.{Short, ShortZ, number};
-ghost use Rattle.lines.specs.Texts.{Ends, Halts, Is, Item, Keeps, Limited, Listed, Numbers, Others, Pairs, Routes, Triples};
+ghost use Rattle.lines.specs.Texts.{Ends, Halts, Is, Item, Keeps, Limited, Listed, Many, Routes, Triples};
 ghost use Rattle.lines.specs.Words.{Ending};
 ghost use Rattle.std.specs.Fmt.{signed_decimal};
 
 use super::Reader;
-use crate::form::{Form, NumberItems, TripleItems};
+use crate::form::{Form, Items, NumberItems, TripleItems};
+use crate::item::LineItem;
 use terms::arc::NewArc;
 
 impl<'a> Reader<'a> {
@@ -60,23 +61,32 @@ impl<'a> Reader<'a> {
         })
     }
 
-    /// Numbers, each after a blank, the bracket that ends them and the one that ends the line.
-    fn others(&mut self) -> Option<()>
-        ensures { Ends Others self.old.rest.now result self.new.rest.now }
+    /// Items, each after a blank, the bracket that ends them, and then `after` to the end of the line.
+    fn many<T: LineItem>(&mut self, after: &[u8]) -> Option<()>
+        ensures { Ends (Many T.text T.short (41 ∷ after.now)) self.old.rest.now result self.new.rest.now }
     {
         loop {
             match self.peek() {
                 ' ' => {
                     self.skip();
-                    self.number()?;
+                    T::read(self)?;
                 }
                 ')' => {
                     self.skip();
-                    return self.finish();
+                    return self.literal(after);
                 }
                 _ => return None,
             }
         }
+    }
+
+    /// Items, each after a blank, to the end of the line.
+    pub(super) fn row<T: LineItem>(&mut self) -> Option<Items<'a, T>>
+        ensures { MatchOption result (Halts (Many T.text T.short (codes ")")) self.old.rest.now self.new.rest.now) (λ c. Many T.text T.short (codes ")") c.text.now × (c.text.now ≡ self.old.rest.now)) }
+    {
+        let items = Items::new(self.rest);
+        self.many::<T>(b"")?;
+        Some(items)
     }
 
     /// Numbers with blanks between, the bracket that ends them and the one that ends the line.
@@ -90,7 +100,7 @@ impl<'a> Reader<'a> {
             }
             _ => {
                 self.number()?;
-                self.others()
+                self.many::<u64>(b")")
             }
         }
     }
@@ -100,10 +110,10 @@ impl<'a> Reader<'a> {
         ensures { MatchOption result (Halts Routes self.old.rest.now self.new.rest.now) (λ c. (t : List ℕ) × Listed t × (c.text.now ≡ 40 ∷ t) × (self.old.rest.now ≡ 32 ∷ c.text.now)) }
     {
         self.blank()?;
-        let text = self.rest;
+        let routes = Items::new(self.rest);
         self.pass('(')?;
         self.list()?;
-        Some(NumberItems { text })
+        Some(routes)
     }
 
     /// A place, and routes in brackets of their own.
@@ -115,74 +125,13 @@ impl<'a> Reader<'a> {
         Some((place, routes))
     }
 
-    /// Numbers, each after a blank, as `form` has them.
-    pub(super) fn numbers(&mut self, form: Form<'a>) -> Option<Form<'a>>
-        ensures { Keeps Numbers form.entry self.old.rest.now result self.new.rest.now }
-    {
-        loop {
-            match self.peek() {
-                ' ' => {
-                    self.skip();
-                    self.number()?;
-                }
-                ')' => {
-                    self.skip();
-                    self.end()?;
-                    return Some(form);
-                }
-                _ => return None,
-            }
-        }
-    }
-
-    /// Pairs, each after a blank, as `form` has them.
-    pub(super) fn pairs(&mut self, form: Form<'a>) -> Option<Form<'a>>
-        ensures { Keeps Pairs form.entry self.old.rest.now result self.new.rest.now }
-    {
-        loop {
-            match self.peek() {
-                ' ' => {
-                    self.skip();
-                    self.pair()?;
-                }
-                ')' => {
-                    self.skip();
-                    self.end()?;
-                    return Some(form);
-                }
-                _ => return None,
-            }
-        }
-    }
-
-    /// Triples, each after a blank.
-    fn triples(&mut self) -> Option<TripleItems<'a>>
-        ensures { MatchOption result (Halts Triples self.old.rest.now self.new.rest.now) (λ c. Triples c.text.now × (c.text.now ≡ self.old.rest.now)) }
-    {
-        let text = self.rest;
-        loop {
-            match self.peek() {
-                ' ' => {
-                    self.skip();
-                    self.triple()?;
-                }
-                ')' => {
-                    self.skip();
-                    self.end()?;
-                    return Some(TripleItems { text });
-                }
-                _ => return None,
-            }
-        }
-    }
-
     /// The limit and the entries of a budget.
     pub(super) fn budget(&mut self) -> Option<(i64, TripleItems<'a>)>
         ensures { MatchOption result (Halts Limited self.old.rest.now self.new.rest.now) (λ x. ShortZ x.0 × Triples x.1.text.now × (self.old.rest.now ≡ 32 ∷ (signed_decimal x.0 ++ x.1.text.now))) }
     {
         self.blank()?;
         let limit = self.signed()?;
-        let entries = self.triples()?;
+        let entries = self.row()?;
         Some((limit, entries))
     }
 }

@@ -6,7 +6,7 @@ ghost use Rattle.lines.specs.Texts.{Halts};
 ghost use Rattle.lines.specs.Words.{Body, headed};
 
 use super::Reader;
-use crate::form::{Form, NumberItems, PairItems};
+use crate::form::Form;
 use crate::word::Word;
 
 impl<'a> Reader<'a> {
@@ -30,8 +30,6 @@ impl<'a> Reader<'a> {
         requires { length self.old.rest.now ≤ 4096 }
         ensures { MatchOption result (Halts (Body word) self.old.rest.now self.new.rest.now) (λ g. Says (headed word self.old.rest.now) g) }
     {
-        let pairs = PairItems { text: self.rest };
-        let arcs = NumberItems { text: self.rest };
         match word {
             Word::Casebook => {
                 self.header()?;
@@ -50,16 +48,16 @@ impl<'a> Reader<'a> {
             }
             Word::Seal => self.bare(Form::Seal),
             Word::Claim => Some(Form::Claim(self.one()?)),
-            Word::Price => self.pairs(Form::Price(pairs)),
+            Word::Price => Some(Form::Price(self.row()?)),
             Word::Sample => self.bare(Form::Sample),
-            Word::Strike => self.pairs(Form::Strike(pairs)),
+            Word::Strike => Some(Form::Strike(self.row()?)),
             Word::Trim => self.bare(Form::Trim),
             Word::Split => {
                 let (place, routes) = self.split()?;
                 Some(Form::Split(place, routes))
             }
-            Word::Close => self.pairs(Form::Close(pairs)),
-            Word::Offer => self.numbers(Form::Offer(arcs)),
+            Word::Close => Some(Form::Close(self.row()?)),
+            Word::Offer => Some(Form::Offer(self.row()?)),
             Word::Verdict => self.bare(Form::Verdict),
         }
     }

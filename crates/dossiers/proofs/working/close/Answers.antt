@@ -1,4 +1,4 @@
-use Rattle.std.proofs.Common.{ℕ, List, ℤ, ap, ◌∙◌}
+use Rattle.std.proofs.Common.{ℕ, List, ℤ, ap, ◌∙◌, rules}
 use Rattle.lines.specs.Cursors.{HoldsPairs}
 use Rattle.judging.specs.Calls.{on_close}
 use Rattle.casebooks.specs.Views.{problem_in, model_in}
@@ -11,7 +11,7 @@ pub returns : goal.returns
 returns g c =
     let t = problem_in g.B.Bank c.args.book.now in
     let m = model_in c.args.book.now in
-    let made : (xs : List (ℕ × ℤ)) → HoldsPairs xs c.args.items → Made (naming t m xs (λ zs. counting (on_close t m zs))) (replied_by c.tell_count.result) (model_in c.close.new.self) =
+    let made : (xs : List (ℕ × ℤ)) → HoldsPairs xs c.args.items → Made (naming t m xs (λ zs. counting (on_close t m zs))) (replied_by c.map.result) (model_in c.close.new.self) =
     λ xs h. with_named t m xs c.rule_count.result c.in_ok-multipliers.multipliers c.all.result.now (λ zs. counting (on_close t m zs)) c.rule_count.ensures (c.in_ok-multipliers.ensures xs h) c.all.ensures
-    (record { reply = c.tell_count.ensures ∙ ap count_told c.close.ensures.reply; left = c.close.ensures.left }) in
+    (record { reply = (search rules) ∙ ap count_told c.close.ensures.reply; left = c.close.ensures.left }) in
     record { reply = λ xs h. (made xs h).reply; left = λ xs h. (made xs h).left; same = c.close.ensures.same }

@@ -8,8 +8,8 @@ use Rattle.dossiers.proofs.working.line.Goals as goal
 
 pub returns-in-Ok : goal.returns-in-Ok
 returns-in-Ok g c = record {
-  replies = by_form c.args.line.now c.in-Ok.form c.in-Ok.ensures.long c.in-Ok.ensures.reads (λ f m _. c.take.ensures.reply f m)
-      (λ f m _. ap₂ (λ (t : Problem) (u : Model). Works t u) c.take.ensures.same (c.take.ensures.left f m));
+  replies = by_form c.args.line.now c.in-Ok.form c.in-Ok.ensures.long c.in-Ok.ensures.reads c.take.ensures.reply
+      (λ f m. ap₂ (λ (t : Problem) (u : Model). Works t u) c.take.ensures.same (c.take.ensures.left f m));
   theorem = λ ls leads. dossier_means ls _ _ leads;
 }
 

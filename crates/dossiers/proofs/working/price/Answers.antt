@@ -1,4 +1,4 @@
-use Rattle.std.proofs.Common.{ℕ, List, ℤ, ap, ◌∙◌}
+use Rattle.std.proofs.Common.{ℕ, List, ℤ, ap, ◌∙◌, rules}
 use Rattle.lines.specs.Cursors.{HoldsPairs}
 use Rattle.judging.specs.Calls.{on_price}
 use Rattle.casebooks.specs.Views.{problem_in, model_in}
@@ -12,10 +12,10 @@ returns g c =
     let t = problem_in g.B.Bank c.args.book.now in
     let m = model_in c.args.book.now in
     let zs = c.all.result.now in
-    let made : (xs : List (ℕ × ℤ)) → HoldsPairs xs c.args.items → Made (naming t m xs (λ zs. pricing (on_price t m zs buffer))) (replied_by c.tell_amount.result) m =
+    let made : (xs : List (ℕ × ℤ)) → HoldsPairs xs c.args.items → Made (naming t m xs (λ zs. pricing (on_price t m zs buffer))) (replied_by c.map.result) m =
     λ xs h. with_named t m xs c.rule_count.result c.in_ok-multipliers.multipliers zs (λ zs. pricing (on_price t m zs buffer)) c.rule_count.ensures (c.in_ok-multipliers.ensures xs h) c.all.ensures
     (record {
-      reply = c.tell_amount.ensures ∙ ap amount_told (c.price.ensures.reply ∙ ap (λ (room : List ℕ). (on_price t m zs room).answer) c.buffer-plan.ensures);
-      left = c.price.ensures.left ∙ ap (λ (room : List ℕ). (on_price t m zs room).left.model) c.buffer-plan.ensures;
+      reply = (search rules) ∙ ap amount_told (c.price-answer.ensures.reply);
+      left = c.price-answer.ensures.left;
     }) in
     record { reply = λ xs h. (made xs h).reply; left = λ xs h. (made xs h).left }

@@ -1,7 +1,8 @@
+use Rattle.lines.specs.Laws.{signed_told}
 use Rattle.std.proofs.Common.{arith}
 use Rattle.lines.specs.Texts.{Open, Byte}
 use Rattle.lines.proofs.Halting.{Follows, byte_none, byte_some, byte_follows, piece_none, piece_some, open_follows}
-use Rattle.lines.proofs.Pieces.{as_amount, signed_told, signed_live, amount_whole}
+use Rattle.lines.proofs.Pieces.{as_amount, signed_live, amount_whole}
 use Rattle.lines.proofs.reader.Reader.amount.Goals as goal
 
 -- the bracket may stand after a number

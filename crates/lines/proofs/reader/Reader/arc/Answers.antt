@@ -1,5 +1,5 @@
+use Rattle.lines.specs.Laws.{item_told}
 use Rattle.lines.proofs.Halting.{piece_none, piece_some}
-use Rattle.lines.proofs.Pieces.{item_told}
 use Rattle.lines.proofs.Bodies.{two, three, four}
 use Rattle.lines.proofs.reader.Reader.arc.Goals as goal
 

@@ -1,5 +1,5 @@
 use Rattle.lines.proofs.Halting.{byte_none, byte_some, piece_none, piece_some}
-use Rattle.lines.proofs.Pieces.{signed_told}
+use Rattle.lines.specs.Laws.{signed_told}
 use Rattle.lines.proofs.Bodies.{triples_follow, limit_live}
 use Rattle.lines.proofs.reader.Reader.budget.Goals as goal
 

@@ -1,11 +1,10 @@
-use Rattle.std.proofs.Common.{refl}
+use Rattle.std.proofs.Common.{length, sym, refl, ap, ◌∙◌, arith}
 use Rattle.lines.specs.declared.form.Form.TheVariants as read
 use Rattle.lines.specs.declared.word.Word.TheVariants as word
-use Rattle.lines.specs.Forms.{Casebook, Places, Arc, Order, Seal, Claim, Price, Sample, Strike, Trim, Close, Offer, Verdict}
-use Rattle.lines.specs.Texts.{Pairs, Numbers}
+use Rattle.lines.specs.Forms.{Casebook, Places, Arc, Order, Seal, Claim, Price, Sample, Strike, Trim, Close, Offer, Verdict, pair}
 use Rattle.lines.specs.Words.{Ending, Body, headed}
 use Rattle.lines.proofs.Forming.{after, body_none}
-use Rattle.lines.proofs.Holding.{pairs_held, arcs_held, kept_said, once_said, budget_said, split_said}
+use Rattle.lines.proofs.Holding.{row_held, arcs_held, kept_said, once_said, budget_said, split_said}
 use Rattle.lines.proofs.reader.Reader.items.Goals as goal
 
 -- the items break off
@@ -88,18 +87,46 @@ pub returns-in-Verdict : goal.returns-in-Verdict
 unfolding Body headed
 returns-in-Verdict c = kept_said c.bare-in-Verdict.result read.Verdict Ending _ word.Verdict _ _ c.in-Verdict.is (λ h. h) (λ e. record { form = Verdict; means = refl; proper = tt; whole = after _ word.Verdict _ _ c.in-Verdict.is e }) c.bare-in-Verdict.ensures
 
-pub returns-in-Price : goal.returns-in-Price
-unfolding Body headed
-returns-in-Price c = kept_said c.pairs.result _ Pairs _ word.Price _ _ c.in-Price.is (λ h. h) (λ m. let h = pairs_held _ c.requires m in record { form = Price h.0; means = (h.0, h.1, refl); proper = h.1.short; whole = after _ word.Price _ _ c.in-Price.is h.1.written }) c.pairs.ensures
+pub returns-in_err-row-in-Price : goal.returns-in_err-row-in-Price
+unfolding Body
+returns-in_err-row-in-Price c = rw c.from_residual-in_err-row-in-Price.ensures (body_none _ word.Price _ _ c.in-Price.is c.in_err-row-in-Price.ensures)
 
-pub returns-in-Strike : goal.returns-in-Strike
-unfolding Body headed
-returns-in-Strike c = kept_said c.pairs-in-Strike.result _ Pairs _ word.Strike _ _ c.in-Strike.is (λ h. h) (λ m. let h = pairs_held _ c.requires m in record { form = Strike h.0; means = (h.0, h.1, refl); proper = h.1.short; whole = after _ word.Strike _ _ c.in-Strike.is h.1.written }) c.pairs-in-Strike.ensures
+pub returns-in_ok-row-in-Price : goal.returns-in_ok-row-in-Price
+unfolding headed
+returns-in_ok-row-in-Price c =
+    let r = c.in_ok-row-in-Price.ensures in
+    let h = row_held pair _ (omega (arith, ap length r.1, c.requires)) r.0 in
+    record { form = Price h.0; means = (h.0, h.1, refl); proper = h.1.short; whole = after _ word.Price _ _ c.in-Price.is (sym r.1 ∙ h.1.written) }
 
-pub returns-in-Close : goal.returns-in-Close
-unfolding Body headed
-returns-in-Close c = kept_said c.pairs-in-Close.result _ Pairs _ word.Close _ _ c.in-Close.is (λ h. h) (λ m. let h = pairs_held _ c.requires m in record { form = Close h.0; means = (h.0, h.1, refl); proper = h.1.short; whole = after _ word.Close _ _ c.in-Close.is h.1.written }) c.pairs-in-Close.ensures
+pub returns-in_err-row-in-Strike : goal.returns-in_err-row-in-Strike
+unfolding Body
+returns-in_err-row-in-Strike c = rw c.from_residual-in_err-row-in-Strike.ensures (body_none _ word.Strike _ _ c.in-Strike.is c.in_err-row-in-Strike.ensures)
 
-pub returns-in-Offer : goal.returns-in-Offer
-unfolding Body headed
-returns-in-Offer c = kept_said c.numbers.result _ Numbers _ word.Offer _ _ c.in-Offer.is (λ h. h) (λ m. let h = arcs_held _ c.requires m in record { form = Offer h.0; means = (h.0, h.1, refl); proper = h.1.short; whole = after _ word.Offer _ _ c.in-Offer.is h.2 }) c.numbers.ensures
+pub returns-in_ok-row-in-Strike : goal.returns-in_ok-row-in-Strike
+unfolding headed
+returns-in_ok-row-in-Strike c =
+    let r = c.in_ok-row-in-Strike.ensures in
+    let h = row_held pair _ (omega (arith, ap length r.1, c.requires)) r.0 in
+    record { form = Strike h.0; means = (h.0, h.1, refl); proper = h.1.short; whole = after _ word.Strike _ _ c.in-Strike.is (sym r.1 ∙ h.1.written) }
+
+pub returns-in_err-row-in-Close : goal.returns-in_err-row-in-Close
+unfolding Body
+returns-in_err-row-in-Close c = rw c.from_residual-in_err-row-in-Close.ensures (body_none _ word.Close _ _ c.in-Close.is c.in_err-row-in-Close.ensures)
+
+pub returns-in_ok-row-in-Close : goal.returns-in_ok-row-in-Close
+unfolding headed
+returns-in_ok-row-in-Close c =
+    let r = c.in_ok-row-in-Close.ensures in
+    let h = row_held pair _ (omega (arith, ap length r.1, c.requires)) r.0 in
+    record { form = Close h.0; means = (h.0, h.1, refl); proper = h.1.short; whole = after _ word.Close _ _ c.in-Close.is (sym r.1 ∙ h.1.written) }
+
+pub returns-in_err-row-in-Offer : goal.returns-in_err-row-in-Offer
+unfolding Body
+returns-in_err-row-in-Offer c = rw c.from_residual-in_err-row-in-Offer.ensures (body_none _ word.Offer _ _ c.in-Offer.is c.in_err-row-in-Offer.ensures)
+
+pub returns-in_ok-row-in-Offer : goal.returns-in_ok-row-in-Offer
+unfolding headed
+returns-in_ok-row-in-Offer c =
+    let r = c.in_ok-row-in-Offer.ensures in
+    let h = arcs_held _ (omega (arith, ap length r.1, c.requires)) r.0 in
+    record { form = Offer h.0; means = (h.0, h.1, refl); proper = h.1.short; whole = after _ word.Offer _ _ c.in-Offer.is (sym r.1 ∙ h.2) }

@@ -11,4 +11,4 @@ pub returns-in_err-number-in_default : goal.returns-in_err-number-in_default
 returns-in_err-number-in_default c = rw c.from_residual.ensures (list_none _ _ (λ e. omega (arith, c.peek.ensures)) (number_halts c.in_err-number-in_default.ensures))
 
 pub returns-in_ok-number-in_default : goal.returns-in_ok-number-in_default
-returns-in_ok-number-in_default c = list_some c.others.result _ _ c.number.new.self.rest.now _ (λ e. omega (arith, c.peek.ensures)) c.in_ok-number-in_default.ensures c.others.ensures
+returns-in_ok-number-in_default c = list_some c.many.result _ _ c.number.new.self.rest.now _ (λ e. omega (arith, c.peek.ensures)) c.in_ok-number-in_default.ensures c.many.ensures

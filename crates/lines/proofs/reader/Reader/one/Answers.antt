@@ -1,7 +1,7 @@
+use Rattle.lines.specs.Laws.{item_told}
 use Rattle.std.proofs.Common.{◌++◌, ap, ◌∙◌}
 use Rattle.lines.specs.Forms.{number}
 use Rattle.lines.proofs.Halting.{piece_none, piece_some}
-use Rattle.lines.proofs.Pieces.{item_told}
 use Rattle.lines.proofs.Bodies.{ending}
 use Rattle.lines.proofs.reader.Reader.one.Goals as goal
 

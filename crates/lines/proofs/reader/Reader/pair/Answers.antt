@@ -1,6 +1,7 @@
+use Rattle.lines.specs.Laws.{number_told}
 use Rattle.lines.specs.Texts.{Open}
 use Rattle.lines.proofs.Halting.{byte_none, byte_some, piece_none, piece_some, open_follows}
-use Rattle.lines.proofs.Pieces.{as_pair, number_told, number_halts, number_live, amount_follows, pair_whole}
+use Rattle.lines.proofs.Pieces.{as_pair, number_halts, number_live, amount_follows, pair_whole}
 use Rattle.lines.proofs.reader.Reader.pair.Goals as goal
 
 pub returns-in_err-pass : goal.returns-in_err-pass

@@ -1,7 +1,8 @@
+use Rattle.lines.specs.Laws.{number_told, item_told}
 use Rattle.lines.specs.Texts.{Open, Item, Piece}
 use Rattle.lines.specs.Forms.{amount, ShortZ}
 use Rattle.lines.proofs.Halting.{Follows, byte_none, byte_some, piece_none, piece_some, open_follows}
-use Rattle.lines.proofs.Pieces.{as_triple, number_told, number_halts, number_live, item_told, item_follows, amount_follows, triple_whole}
+use Rattle.lines.proofs.Pieces.{as_triple, number_halts, number_live, item_follows, amount_follows, triple_whole}
 use Rattle.lines.proofs.reader.Reader.triple.Goals as goal
 
 -- what follows the route
