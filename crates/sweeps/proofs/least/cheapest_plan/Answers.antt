@@ -4,7 +4,6 @@ use Rattle.terms.specs.declared.arc.Arc.{Arc}
 use Rattle.plans.specs.Arcs.{arc_at}
 use Rattle.plans.specs.Firsts.{written}
 use Rattle.charts.specs.Drafts.{places_of, arcs_of}
-use Rattle.charts.proofs.Tables.{sealed}
 use Rattle.ways.specs.Amounts.{marked, price_at}
 use Rattle.ways.proofs.Minutes.{cheapest_minutes, amount_minutes, minutes_small}
 use Rattle.sweeps.proofs.least.cheapest_plan.Goals as goal
@@ -12,7 +11,7 @@ use Rattle.sweeps.proofs.least.cheapest_plan.Goals as goal
 pub invariant_of-priced : goal.invariant_of-priced
 invariant_of-priced c =
     let arcs = arcs_of c.args.chart.now in
-    let whole = sealed c.args.chart.now in
+    let whole = c.args.chart.now.sealed in
     let same = c.arcs.ensures in
     let count = whole.count in
     let long = c.by_minutes-prices.ensures.long in
@@ -31,7 +30,7 @@ returns c =
     let s = marked (replicate 1024 true) in
     let price = price_at c.by_minutes-prices.result in
     let same = c.arcs.ensures in
-    let few = (sealed c.args.chart.now).count in
+    let few = c.args.chart.now.sealed.count in
     let marks : (a : ℕ) → a < length arcs → s a ≡ true = λ a l. get_or-replicate 1024 a true false (omega arith) in
     let minutes : (a : ℕ) → a < length arcs → price a ≡ pos (arc_at arcs a).minutes = λ a l. c.by_minutes-prices.ensures.each a (omega (arith, ap length same)) ∙ ap (λ (xs : List Arc). pos (arc_at xs a).minutes) same in
     record {

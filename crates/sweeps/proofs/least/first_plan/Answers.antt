@@ -1,6 +1,5 @@
 use Rattle.std.proofs.Common.{◌∙◌, replicate, pos}
 use Rattle.charts.specs.Drafts.{places_of, arcs_of}
-use Rattle.charts.proofs.Tables.{sealed}
 use Rattle.ways.specs.Amounts.{marked, price_at}
 use Rattle.ways.proofs.Firsts.{reach_standing}
 use Rattle.ways.proofs.Writes.{reach_wrote}
@@ -9,7 +8,7 @@ use Rattle.sweeps.proofs.least.first_plan.Goals as goal
 
 pub invariant_of-priced : goal.invariant_of-priced
 invariant_of-priced c = record {
-  fit = unpriced (arcs_of c.args.chart.now) c.args.standing.now 1024 c.requires.marks (sealed c.args.chart.now).count;
+  fit = unpriced (arcs_of c.args.chart.now) c.args.standing.now 1024 c.requires.marks c.args.chart.now.sealed.count;
 }
 
 pub returns : goal.returns
@@ -17,7 +16,7 @@ returns c =
     let n = places_of c.args.chart.now in
     let arcs = arcs_of c.args.chart.now in
     let s = marked c.args.standing.now in
-    let whole = sealed c.args.chart.now in
+    let whole = c.args.chart.now.sealed in
     let price = price_at (replicate 1024 (pos 0)) in
     let small = (unpriced arcs c.args.standing.now 1024 c.requires.marks whole.count).small in
     record {

@@ -2,7 +2,6 @@ use Rattle.std.proofs.Common.{◌≡◌, ◌+◌, ◌*◌, ◌<◌, length, get_
 use Rattle.std.proofs.lemmas.Bool.{eq-eqb, ne_eqb, and_from, and_left, and_right}
 use Rattle.plans.specs.Arcs.{arc_at}
 use Rattle.charts.specs.Drafts.{places_of, arcs_of}
-use Rattle.charts.proofs.Tables.{sealed}
 use Rattle.tallies.specs.Laws.{wide}
 use Rattle.ways.specs.Amounts.{marked, price_at}
 use Rattle.ways.specs.Ways.{spot}
@@ -18,7 +17,7 @@ relax-requires-clause-amount_small g c =
     let st = g.met.H.Heading.lawful in
     let n = places_of c.args.self.now.chart.now in
     let arcs = arcs_of c.args.self.now.chart.now in
-    let whole = sealed c.args.self.now.chart.now in
+    let whole = c.args.self.now.chart.now.sealed in
     let k = c.args.step in
     let i = c.loop-i.i in
     let x = arc_at arcs i in
@@ -39,7 +38,7 @@ loop-i-preserved g c =
     let arcs = arcs_of c.args.self.now.chart.now in
     let s = marked c.args.self.now.standing.now in
     let price = price_at c.args.self.now.prices.now in
-    let whole = sealed c.args.self.now.chart.now in
+    let whole = c.args.self.now.chart.now.sealed in
     let small = c.args.self.now.fit.small in
     let k = c.args.step in
     let i = c.loop-i.i in
@@ -73,5 +72,5 @@ loop-i-preserved g c =
 pub returns : goal.returns
 returns g c =
     let same = c.arcs-arc-items.ensures in
-    let whole = sealed c.args.self.now.chart.now in
+    let whole = c.args.self.now.chart.now.sealed in
     arriving_all g.T.Tally g.met.T.Tally.lawful g.H.Heading g.met.H.Heading.lawful (places_of c.args.self.now.chart.now) whole.few (arcs_of c.args.self.now.chart.now) _ _ c.args.self.now.fit.small c.args.step c.loop-i.i c.loop-i.out c.requires.more (omega (arith, ap length same)) c.loop-i.invariant

@@ -1,6 +1,5 @@
 use Rattle.std.proofs.Common.{◌∙◌}
 use Rattle.charts.specs.Drafts.{places_of, arcs_of}
-use Rattle.charts.proofs.Tables.{sealed}
 use Rattle.ways.specs.Amounts.{marked, price_at}
 use Rattle.ways.proofs.Firsts.{least_standing}
 use Rattle.ways.proofs.Writes.{least_wrote}
@@ -15,5 +14,5 @@ returns c =
     let price = price_at p.prices.now in
     record {
       amount = c.attain.ensures.amount ∙ least_standing price n arcs s;
-      plan = least_wrote n arcs (sealed p.chart.now) s price p.fit.small c.args.plan.now c.attain.new.plan c.attain.ensures.plan.0 c.attain.ensures.plan.1;
+      plan = least_wrote n arcs p.chart.now.sealed s price p.fit.small c.args.plan.now c.attain.new.plan c.attain.ensures.plan.0 c.attain.ensures.plan.1;
     }

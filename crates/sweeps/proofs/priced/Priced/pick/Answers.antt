@@ -4,7 +4,6 @@ use Rattle.plans.specs.Arcs.{arc_at}
 use Rattle.plans.specs.Plans.{next}
 use Rattle.plans.proofs.Steps.{next_from, next_place, next_start}
 use Rattle.charts.specs.Drafts.{places_of, arcs_of}
-use Rattle.charts.proofs.Tables.{sealed}
 use Rattle.tallies.specs.Laws.{wide}
 use Rattle.ways.specs.Amounts.{marked, price_at}
 use Rattle.ways.proofs.Tables.{price_passed}
@@ -20,7 +19,7 @@ extend-part-requires g c =
     let arcs = arcs_of c.args.self.now.chart.now in
     let s = marked c.args.self.now.standing.now in
     let price = price_at c.args.self.now.prices.now in
-    let whole = sealed c.args.self.now.chart.now in
+    let whole = c.args.self.now.chart.now.sealed in
     let small = c.args.self.now.fit.small in
     let k = c.args.place in
     let i = c.loop-i.i in
@@ -46,7 +45,7 @@ returns-then-first g c =
     let arcs = arcs_of c.args.self.now.chart.now in
     let s = marked c.args.self.now.standing.now in
     let price = price_at c.args.self.now.prices.now in
-    let all = sealed c.args.self.now.chart.now in
+    let all = c.args.self.now.chart.now.sealed in
     let small = c.args.self.now.fit.small in
     let k = c.args.place in
     let v = c.args.node in
@@ -77,7 +76,7 @@ loop-i-preserved g c =
     let arcs = arcs_of c.args.self.now.chart.now in
     let s = marked c.args.self.now.standing.now in
     let price = price_at c.args.self.now.prices.now in
-    let all = sealed c.args.self.now.chart.now in
+    let all = c.args.self.now.chart.now.sealed in
     let small = c.args.self.now.fit.small in
     let k = c.args.place in
     let v = c.args.node in

@@ -4,7 +4,6 @@ use Rattle.std.proofs.lemmas.Bool.{both_ways, and_parts}
 use Rattle.plans.specs.Arcs.{arc_at}
 use Rattle.plans.specs.Plans.{next, Node}
 use Rattle.charts.specs.Drafts.{places_of, arcs_of}
-use Rattle.charts.proofs.Tables.{sealed}
 use Rattle.ways.specs.Amounts.{marked, price_at, backward_amount}
 use Rattle.ways.specs.Traces.{Traced, Completes}
 use Rattle.ways.proofs.Levels.{root_node, end_node, read_table, attained, amount_left, completes_more, completes_all, traced_attains}
@@ -15,7 +14,7 @@ returns-in_default g c =
     let t = g.T.Tally in
     let n = places_of c.args.self.now.chart.now in
     let arcs = arcs_of c.args.self.now.chart.now in
-    let there = attained t g.met.T.Tally.lawful n arcs (sealed c.args.self.now.chart.now) (marked c.args.self.now.standing.now) (price_at c.args.self.now.prices.now) c.args.self.now.fit.small c.first.ensures.chooses (c.loop-j.j + 1) c.loop-j.node c.loop-j.invariant.2 (let f = c.from-j-end.ensures in let d = c.places.ensures.value in omega arith) c.loop-j.invariant.1 in
+    let there = attained t g.met.T.Tally.lawful n arcs c.args.self.now.chart.now.sealed (marked c.args.self.now.standing.now) (price_at c.args.self.now.prices.now) c.args.self.now.fit.small c.first.ensures.chooses (c.loop-j.j + 1) c.loop-j.node c.loop-j.invariant.2 (let f = c.from-j-end.ensures in let d = c.places.ensures.value in omega arith) c.loop-j.invariant.1 in
     absurd (c.in_default.ensures there.0 there.1.0 there.1.1)
 
 pub loop-j-preserved : goal.loop-j-preserved
@@ -26,7 +25,7 @@ loop-j-preserved g c =
     let arcs = arcs_of c.args.self.now.chart.now in
     let s = marked c.args.self.now.standing.now in
     let price = price_at c.args.self.now.prices.now in
-    let all = sealed c.args.self.now.chart.now in
+    let all = c.args.self.now.chart.now.sealed in
     let small = c.args.self.now.fit.small in
     let j = c.loop-j.j in
     let i = c.in-Some.i in
@@ -59,7 +58,7 @@ returns g c =
     let arcs = arcs_of c.args.self.now.chart.now in
     let s = marked c.args.self.now.standing.now in
     let price = price_at c.args.self.now.prices.now in
-    let all = sealed c.args.self.now.chart.now in
+    let all = c.args.self.now.chart.now.sealed in
     let small = c.args.self.now.fit.small in
     let plan = c.loop-j.plan in
     let j = c.loop-j.j in
