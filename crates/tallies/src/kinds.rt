@@ -1,7 +1,7 @@
 //! The kinds of tally: least, the smaller amount, and reach, whether there is a plan.
 ghost use Rattle.std.specs.Prelude.{◌≡◌, ℕ, true, false, ◌||◌, ℤ, pos, Some, None};
 ghost use Rattle.tallies.specs.Kinds.{least_join, least_extend, least_size};
-ghost use Rattle.tallies.specs.Sorts.{least_lawful, reach_lawful};
+ghost use Rattle.tallies.specs.Sorts.{least_lawful, reach_lawful, least_chooses, reach_chooses};
 
 use super::tally::{Choosing, Tally};
 
@@ -32,7 +32,7 @@ impl Tally for Reach {
     }
 
     fn join(a: bool, b: bool) -> bool {
-        a | b
+        a || b
     }
 
     fn extend(a: bool, _price: i64) -> bool {
@@ -41,8 +41,10 @@ impl Tally for Reach {
 }
 
 impl Choosing for Reach {
+    ghost chooses = { reach_chooses };
+
     fn first(a: bool, b: bool) -> bool {
-        a | !b
+        a || !b
     }
 }
 
@@ -74,26 +76,23 @@ impl Tally for Least {
 
     fn join(a: Option<i64>, b: Option<i64>) -> Option<i64> {
         match (a, b) {
-            (None, b) => b,
-            (Some(x), None) => Some(x),
-            (Some(x), Some(y)) => { if y < x { Some(y) } else { Some(x) } }
+            (Some(x), Some(y)) => Some(x.min(y)),
+            _ => a.or(b),
         }
     }
 
     fn extend(a: Option<i64>, price: i64) -> Option<i64> {
-        match a {
-            None => None,
-            Some(x) => Some(x + price),
-        }
+        a.map(|x| x + price)
     }
 }
 
 impl Choosing for Least {
+    ghost chooses = { least_chooses };
+
     fn first(a: Option<i64>, b: Option<i64>) -> bool {
         match (a, b) {
-            (None, None) => true,
+            (_, None) => true,
             (None, Some(_)) => false,
-            (Some(_), None) => true,
             (Some(x), Some(y)) => x <= y,
         }
     }

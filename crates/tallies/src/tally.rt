@@ -1,5 +1,5 @@
 //! What a kind of tally is.
-ghost use Rattle.std.specs.Prelude.{◌≡◌, ℕ, ◌<◌, true, false, ◌⊎◌, ℤ, unsigned_abs};
+ghost use Rattle.std.specs.Prelude.{◌≡◌, ℕ, ◌<◌, ◌⊎◌, ◌↔◌, ℤ, IsTrue, unsigned_abs};
 ghost use Rattle.tallies.specs.Laws.{TallyLaws, wide};
 
 /// A kind of tally: its sort of amount, the amounts of "no plan" and of the empty plan, the joining of two
@@ -41,8 +41,7 @@ pub trait Tally {
 pub trait Choosing: Tally {
     /// Whether the joining of two amounts is the first; if not, it is the second.
     fn first(a: Self::Amount, b: Self::Amount) -> bool
-        ensures chosen { result ≡ true → Self.joins a b ≡ a }
-        ensures other { result ≡ false → Self.joins a b ≡ b }
-        ensures told { Self.joins a b ≡ a → result ≡ true }
-        ensures chooses { (x y : Self.Amount) → (Self.joins x y ≡ x) ⊎ (Self.joins x y ≡ y) };
+        ensures { IsTrue result ↔ (Self.joins a b ≡ a) };
+
+    ghost chooses: { (x y : Self.Amount) → (Self.joins x y ≡ x) ⊎ (Self.joins x y ≡ y) };
 }
