@@ -15,7 +15,7 @@ returns-in_default g c =
     let t = g.T.Tally in
     let n = places_of c.args.self.now.chart.now in
     let arcs = arcs_of c.args.self.now.chart.now in
-    let there = attained t g.met.T.Tally.lawful n arcs (sealed c.args.self.now.chart.now) (marked c.args.self.now.standing.now) (price_at c.args.self.now.prices.now) c.args.self.now.fit.small c.first.ensures.chooses (c.loop-j.j + 1) c.loop-j.node c.loop-j.invariant.2 (let f = c.from-j-end.ensures in let d = c.places.ensures.value in omega arith) c.loop-j.invariant.1 in
+    let there = attained t g.met.T.Tally.lawful n arcs (sealed c.args.self.now.chart.now) (marked c.args.self.now.standing.now) (price_at c.args.self.now.prices.now) c.args.self.now.fit.small g.met.T.Choosing.chooses (c.loop-j.j + 1) c.loop-j.node c.loop-j.invariant.2 (let f = c.from-j-end.ensures in let d = c.places.ensures.value in omega arith) c.loop-j.invariant.1 in
     absurd (c.in_default.ensures there.0 there.1.0 there.1.1)
 
 pub loop-j-preserved : goal.loop-j-preserved
@@ -70,7 +70,7 @@ returns g c =
       (λ none.
           let np = c.no_plan.ensures in
           let ne = laws.neutral x in
-          both_ways c.first.result c.if-first.false (c.first.ensures.told (cc))),
+          both_ways c.first.result c.if-first.false (c.first.ensures.1 (cc))),
       traced,
       traced_attains t laws n arcs all s price small (take n plan) traced,
       c.loop-j.invariant.3,
