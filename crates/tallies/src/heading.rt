@@ -35,6 +35,7 @@ pub trait Heading {
         requires { (step ≤ places) × (places ≤ 32) }
         ensures { result ≡ row places step };
 
+    // What every direction owes.
     ghost lawful: { HeadingLaws near far place row };
 }
 
