@@ -22,7 +22,7 @@ fn fill<X: Copy>(out: &mut [X], value: X)
 fn relax<T: Tally>(from: usize, to: usize, price: i64, out: &mut [T::Amount])
     requires from_within { from < length out.old }
     requires to_within { to < length out.old }
-    requires amount_small { T.Tally.size (slice_index_or out.old from T.Tally.nothing) < wide }
+    requires amount_small { T.Tally.size (slice_index_or out.old from T.Tally.NO_PLAN) < wide }
     requires price_small { unsigned_abs price < wide }
     ensures { out.new ≡ relaxed T.Tally out.old from to price }
 {
@@ -61,8 +61,8 @@ impl Priced<'_> {
         ensures { Filled T.Tally H.Heading (places_of self.now.chart.now) (arcs_of self.now.chart.now) (marked self.now.standing.now) (price_at self.now.prices.now) (places_of self.now.chart.now) out.new }
     {
         let places = usize::from(self.chart.places());
-        fill(out, T::no_plan());
-        out[32 * H::row_at(places, 0)] = T::empty_plan();
+        fill(out, T::NO_PLAN);
+        out[32 * H::row_at(places, 0)] = T::EMPTY_PLAN;
         for step in 0..places {
             self.cross::<T, H>(step, out);
         }

@@ -201,11 +201,11 @@ module _ (n : ℕ) (arcs : List Arc) (sealed : Sealed n arcs) (a : ℕ) (l : a <
 
   module _ {X A : Type 0} (t : Ghosts X A) (s : Case) (price : ℕ → ℤ) (fore back : List A) where
     -- what filled tables hold at them
-    pub read_before : Forward t n arcs s price fore → get_or fore (start_entry (arc_at arcs a)) t.nothing ≡ amount_before t arcs s price a
+    pub read_before : Forward t n arcs s price fore → get_or fore (start_entry (arc_at arcs a)) t.NO_PLAN ≡ amount_before t arcs s price a
     read_before h = h (arc_at arcs a).place (arc_at arcs a).start start_node
 
-    pub read_behind : Backward t n arcs s price back → get_or back (end_entry (arc_at arcs a)) t.nothing ≡ amount_behind t n arcs s price a
-    read_behind h = ap (λ q. get_or back q t.nothing) end_spot ∙ h (suc (arc_at arcs a).place) (arc_at arcs a).end final_node
+    pub read_behind : Backward t n arcs s price back → get_or back (end_entry (arc_at arcs a)) t.NO_PLAN ≡ amount_behind t n arcs s price a
+    read_behind h = ap (λ q. get_or back q t.NO_PLAN) end_spot ∙ h (suc (arc_at arcs a).place) (arc_at arcs a).end final_node
 
   module _ (s : Case) (price : ℕ → ℤ) (small : (i : ℕ) → nat_abs (price i) ≤ steep) where
     -- neither amount is too large
