@@ -8,8 +8,7 @@ ghost use Rattle.through.specs.Pricings.{Priceable};
 ghost use Rattle.casebooks.specs.Views.{problem_of, model_of};
 
 use crate::casebook::{Claim, Desk};
-use pricing::price::{least_amount, priced_plan};
-use pricing::strike::strike;
+use pricing::Pricing;
 use pricing::trim::trim;
 use rules::bank::Bank;
 use sweeps::least::first_plan;
@@ -44,7 +43,8 @@ impl Desk {
     {
         let _ = self.chart.places();
         let standing = self.working();
-        priced_plan(&self.chart, bank, multipliers, &standing, plan)
+        let pricing = Pricing::new(bank, multipliers);
+        pricing.priced_plan(&self.chart, &standing, plan)
     }
 
     /// Whether a plan stands in the working case; writes the first that does.
@@ -67,8 +67,9 @@ impl Desk {
     {
         let _ = self.chart.places();
         let standing = self.working();
+        let pricing = Pricing::new(bank, multipliers);
         below(
-            least_amount(&self.chart, bank, multipliers, &standing),
+            pricing.least_amount(&self.chart, &standing),
             self.claim.mark(),
         )
     }
@@ -83,13 +84,8 @@ impl Desk {
     {
         let _ = self.chart.places();
         let mut standing = self.working();
-        let removed = strike(
-            &self.chart,
-            bank,
-            multipliers,
-            self.claim.mark(),
-            &mut standing,
-        );
+        let pricing = Pricing::new(bank, multipliers);
+        let removed = pricing.strike(&self.chart, self.claim.mark(), &mut standing);
         self.keep(&standing);
         removed
     }
