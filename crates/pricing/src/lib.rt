@@ -1,10 +1,30 @@
-//! The prices of arcs under a bank and multipliers, and what they tell of the standing plans.
+//! A bank of rules with a fair multiplier for each: the prices of arcs, and what they tell of the standing plans.
+//!
+//! The calls stand in modules of their own: a definition that names this struct cannot be cited in the file that
+//! declares its ghost fields.
 #![tactic(auto)]
 
+ghost use Rattle.std.specs.Prelude.{◌≡◌};
+ghost use Rattle.through.specs.Pricings.{Priceable, priceable_prop, counting};
+
+mod active;
 pub mod fair;
-mod marks;
 pub mod price;
 pub mod prices;
+mod sift;
 pub mod strike;
 mod sums;
 pub mod trim;
+
+use arrayvec::ArrayVec;
+use rules::bank::Bank;
+
+/// A bank of at most 128 rules with a fair multiplier for each, and the numbers of the rules whose multiplier is not 0.
+#[derive(Drop)]
+pub struct Pricing<'a, B: Bank> {
+    bank: &'a B,
+    multipliers: &'a [i64],
+    active: ArrayVec<usize, 128>,
+    ghost asked: { Priceable (B.Bank.rules bank.now) multipliers.now } by { priceable_prop (B.Bank.rules bank.now) multipliers.now },
+    ghost counted: { active.items ≡ counting multipliers.now },
+}

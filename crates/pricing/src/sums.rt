@@ -10,8 +10,5 @@ pub fn plus(amount: Option<i64>, more: i64) -> Option<i64>
     ensures value { result ≡ least_extend amount more }
     ensures small { least_size result < least_size amount + wide }
 {
-    match amount {
-        None => None,
-        Some(sum) => Some(sum + more),
-    }
+    Some(amount? + more)
 }

@@ -1,1 +1,1 @@
-mod Alike
+pub mod Alike

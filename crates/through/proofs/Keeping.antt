@@ -1,28 +1,28 @@
 -- The amounts before and behind an arc say whether a standing plan through it is priced below a mark, and whether there is
 -- one at all. Assumes nothing.
-use Rattle.std.proofs.Common.{◌≡◌, ℕ, suc, ◌-◌, ◌<◌, ◌≤◌, Bool, true, false, not, ◌&&◌, ◌||◌, List, [], ◌∷◌, ◌++◌, map, length, get_or, ℤ, ◌+ℤ◌, nat_abs, ◌≤ℤ◌, Some, None, Option, sym, refl, ap, ◌∙◌, subst, inl, arith}
+use Rattle.std.proofs.Common.{◌≡◌, ℕ, suc, ◌+◌, ◌-◌, ◌<◌, ◌≤◌, Bool, true, false, ◌&&◌, ◌||◌, List, [], ◌∷◌, ◌++◌, map, length, get_or, ℤ, ◌+ℤ◌, nat_abs, ◌≤ℤ◌, Some, None, Option, sym, refl, ap, ◌∙◌, subst, add-one, inl, arith}
 use lib.Signed.{lt_z}
 use Rattle.std.proofs.lemmas.Int.{ints}
 use Rattle.std.proofs.lemmas.Bool.{and_parts, and_from, false≢true}
+use Rattle.std.proofs.lemmas.List.{get_or_read}
 use Rattle.terms.specs.declared.arc.Arc.{Arc}
 use Rattle.plans.specs.Arcs.{arc_at, Sealed}
 use Rattle.plans.specs.Plans.{In, Node}
-use Rattle.plans.specs.Cases.{Case, those, standing, on_some, kept, gone}
+use Rattle.plans.specs.Cases.{Case, those, standing, on_some}
 use Rattle.plans.specs.Firsts.{cheapest, amount_in}
 use Rattle.plans.proofs.Members.{those_in, those_out}
 use Rattle.plans.proofs.Steps.{next_from}
 use Rattle.plans.proofs.Standing.{on_some_lem, some_on, cheapest_least, cheapest_in}
 use Rattle.tallies.specs.Laws.{wide, steep}
-use Rattle.tallies.specs.Kinds.{least_extend, least_size}
+use Rattle.tallies.specs.Kinds.{least_extend}
 use Rattle.tallies.specs.declared.tally.Tally.{Ghosts}
-use Rattle.tallies.specs.Sorts.{least_lawful}
-use Rattle.ways.specs.Amounts.{along, along_back, joining, price_at, entry, Forward, Backward}
+use Rattle.ways.specs.Amounts.{along, along_back, joining, entry, Forward, Backward}
 use Rattle.ways.specs.Directions.{onward}
 use Rattle.ways.specs.Sums.{price_sum, leasts, reaches}
-use Rattle.ways.proofs.Sums.{way_narrow}
+use Rattle.ways.proofs.Sums.{Lawful, way_narrow}
 use Rattle.ways.proofs.Turns.{forward_way}
-use Rattle.ways.proofs.Levels.{end_node, amount_narrow}
-use Rattle.through.specs.Keeping.{through_arc, below, amount_before, amount_behind, kept_below, kept_reached, start_entry, end_entry, AllEntered, table_below, Tabled}
+use Rattle.ways.proofs.Levels.{end_node, amount_narrow, read_table}
+use Rattle.through.specs.Keeping.{through_arc, below, amount_before, amount_behind, below_mark, both_reached}
 use Rattle.through.proofs.Bools.{same_bool}
 use Rattle.through.proofs.Splits.{on_made, befores, behinds, parted, joined}
 use Rattle.through.proofs.Minima.{sum_join, forward_joined, backward_joined}
@@ -86,25 +86,14 @@ module _ (n : ℕ) (arcs : List Arc) (sealed : Sealed n arcs) (s : Case) (price 
       on_some_lem (u ++ a ∷ v) a cheap (those_in (λ q. lt_z (f q) mark) (u ++ a ∷ v) (standing n arcs s) (ap (λ x. lt_z x mark) (through_sum u v m ∙ sym (regroup (g u) (price a) (g v) share)) ∙ e) m) (on_made a u v)
 
   -- the amounts before and behind are those of the cheapest partial plans
-  test_is : kept_below n arcs s price share mark a ≡ test (cheapest g F) (cheapest g B)
+  test_is : below_mark share mark (price a) (amount_before leasts arcs s price a) (amount_behind leasts n arcs s price a) ≡ test (cheapest g F) (cheapest g B)
   test_is =
       ap (λ (o : Option ℤ). below (least_extend (through_arc o (price a) (amount_behind leasts n arcs s price a)) share) mark) (forward_joined price F)
       ∙ ap (λ (o : Option ℤ). below (least_extend (through_arc (amount_in g (cheapest g F)) (price a) o) share) mark) (backward_joined price B)
 
-  -- so the amounts before and behind an arc tell whether it is kept, and whether it goes
-  pub below_kept : (s a && kept_below n arcs s price share mark a) ≡ kept cheap s a
-  below_kept = by (s a) refl
-    where
-      by : (b : Bool) → s a ≡ b → (b && kept_below n arcs s price share mark a) ≡ (b && on_some cheap a)
-      by true e = test_is ∙ same_bool _ _ (below_on e (cheapest g F) (cheapest g B) refl refl) on_below
-      by false e = refl
-
-  pub below_gone : (s a && not (kept_below n arcs s price share mark a)) ≡ gone cheap s a
-  below_gone = by (s a) refl
-    where
-      by : (b : Bool) → s a ≡ b → (b && not (kept_below n arcs s price share mark a)) ≡ (b && not (on_some cheap a))
-      by true e = ap not (test_is ∙ same_bool _ _ (below_on e (cheapest g F) (cheapest g B) refl refl) on_below)
-      by false e = refl
+  -- so the amounts before and behind an arc that stands tell whether it is on one of those plans
+  pub below_is : s a ≡ true → below_mark share mark (price a) (amount_before leasts arcs s price a) (amount_behind leasts n arcs s price a) ≡ on_some cheap a
+  below_is e = test_is ∙ same_bool _ _ (below_on e (cheapest g F) (cheapest g B) refl refl) on_below
 
 -- REACH
 
@@ -147,7 +136,7 @@ module _ (n : ℕ) (arcs : List Arc) (sealed : Sealed n arcs) (s : Case) (price 
   B' = behinds n arcs sealed s a l
 
   -- both ends are reached exactly if there are both
-  reach_is : kept_reached n arcs s price a ≡ (has F' && has B')
+  reach_is : both_reached (price a) (amount_before reaches arcs s price a) (amount_behind reaches n arcs s price a) ≡ (has F' && has B')
   reach_is =
       ap (λ b. b && amount_behind reaches n arcs s price a) (reach_joined price (along reaches price) (reach_onto price) F')
       ∙ ap (λ b. has F' && b) (reach_joined price (along_back reaches price) (reach_back price) B')
@@ -167,20 +156,9 @@ module _ (n : ℕ) (arcs : List Arc) (sealed : Sealed n arcs) (s : Case) (price 
       let v = has_in B' t.1 in
       on_some_lem (u.0 ++ a ∷ v.0) a (standing n arcs s) (joined n arcs sealed s a l st u.0 v.0 u.1 v.1) (on_made a u.0 v.0)
 
-  -- a standing plan goes through an arc exactly if both its ends are reached
-  pub reached_kept : (s a && kept_reached n arcs s price a) ≡ kept (standing n arcs s) s a
-  reached_kept = by (s a) refl
-    where
-      by : (b : Bool) → s a ≡ b → (b && kept_reached n arcs s price a) ≡ (b && on_some (standing n arcs s) a)
-      by true e = reach_is ∙ same_bool _ _ (reached_on e) on_reached
-      by false e = refl
-
-  pub reached_gone : (s a && not (kept_reached n arcs s price a)) ≡ gone (standing n arcs s) s a
-  reached_gone = by (s a) refl
-    where
-      by : (b : Bool) → s a ≡ b → (b && not (kept_reached n arcs s price a)) ≡ (b && not (on_some (standing n arcs s) a))
-      by true e = ap not (reach_is ∙ same_bool _ _ (reached_on e) on_reached)
-      by false e = refl
+  -- a standing plan goes through an arc that stands exactly if both its ends are reached
+  pub reached_is : s a ≡ true → both_reached (price a) (amount_before reaches arcs s price a) (amount_behind reaches n arcs s price a) ≡ on_some (standing n arcs s) a
+  reached_is e = reach_is ∙ same_bool _ _ (reached_on e) on_reached
 
 -- TABLES
 
@@ -195,50 +173,46 @@ module _ (n : ℕ) (arcs : List Arc) (sealed : Sealed n arcs) (a : ℕ) (l : a <
   final_node =
       end_node n arcs sealed (arc_at arcs a).place (arc_at arcs a).start a (sealed.arc a l).placed.0 (next_from arcs (arc_at arcs a).place (arc_at arcs a).start a l refl refl)
 
-  -- the entry of the node at which it ends
-  end_spot : end_entry (arc_at arcs a) ≡ entry (suc (arc_at arcs a).place) (arc_at arcs a).end
-  end_spot = omega arith
+  module _ {X A : Type 0} (t : Ghosts X A) (laws : Lawful t) (s : Case) (price : ℕ → ℤ) (small : (i : ℕ) → nat_abs (price i) ≤ steep) (table : List A) (long : length table ≡ 1056) (q : ℕ) (x : A) (read : x ≡ get_or table q x) where
+    -- what is read at them in filled tables
+    pub read_before : Forward t n arcs s price table → q ≡ entry (arc_at arcs a).place (arc_at arcs a).start → x ≡ amount_before t arcs s price a
+    read_before filled at =
+        let x = sealed.arc a l in
+        let few = sealed.few in
+        let high = x.placed.1 in
+        let below = x.noded.0 in
+        get_or_read table q _ (omega arith) read t.NO_PLAN ∙ ap (λ m. get_or table m t.NO_PLAN) at ∙ filled (arc_at arcs a).place (arc_at arcs a).start start_node
 
-  module _ {X A : Type 0} (t : Ghosts X A) (s : Case) (price : ℕ → ℤ) (fore back : List A) where
-    -- what filled tables hold at them
-    pub read_before : Forward t n arcs s price fore → get_or fore (start_entry (arc_at arcs a)) t.NO_PLAN ≡ amount_before t arcs s price a
-    read_before h = h (arc_at arcs a).place (arc_at arcs a).start start_node
+    pub read_behind : Backward t n arcs s price table → q ≡ entry (suc (arc_at arcs a).place) (arc_at arcs a).end → x ≡ amount_behind t n arcs s price a
+    read_behind filled at = read_table t laws n arcs sealed s price small table (suc (arc_at arcs a).place) (arc_at arcs a).end q x filled long final_node at read
 
-    pub read_behind : Backward t n arcs s price back → get_or back (end_entry (arc_at arcs a)) t.NO_PLAN ≡ amount_behind t n arcs s price a
-    read_behind h = ap (λ q. get_or back q t.NO_PLAN) end_spot ∙ h (suc (arc_at arcs a).place) (arc_at arcs a).end final_node
-
-  module _ (s : Case) (price : ℕ → ℤ) (small : (i : ℕ) → nat_abs (price i) ≤ steep) where
+  module _ {X A : Type 0} (t : Ghosts X A) (laws : Lawful t) (s : Case) (price : ℕ → ℤ) (small : (i : ℕ) → nat_abs (price i) ≤ steep) where
     -- neither amount is too large
-    pub before_small : least_size (amount_before leasts arcs s price a) < wide
+    pub before_small : t.size (amount_before t arcs s price a) < wide
     before_small =
         let few = sealed.few in
         let high = (sealed.arc a l).placed.1 in
-        subst (λ (o : Option ℤ). least_size o < wide) (sym (forward_way leasts price n arcs s (arc_at arcs a).place (arc_at arcs a).start (sealed.arc a l).placed.0)) (way_narrow leasts least_lawful onward n arcs s price small ((arc_at arcs a).place - 1) (arc_at arcs a).start (omega arith))
+        subst (λ (o : A). t.size o < wide) (sym (forward_way t price n arcs s (arc_at arcs a).place (arc_at arcs a).start (sealed.arc a l).placed.0)) (way_narrow t laws onward n arcs s price small ((arc_at arcs a).place - 1) (arc_at arcs a).start (omega arith))
 
-    pub behind_small : least_size (amount_behind leasts n arcs s price a) < wide
-    behind_small = amount_narrow leasts least_lawful n arcs sealed s price small (suc (arc_at arcs a).place) (arc_at arcs a).end final_node
+    pub behind_small : t.size (amount_behind t n arcs s price a) < wide
+    behind_small = amount_narrow t laws n arcs sealed s price small (suc (arc_at arcs a).place) (arc_at arcs a).end final_node
 
--- a sealed chart's arcs have entries
-pub sealed_entered : (n : ℕ) (arcs : List Arc) → Sealed n arcs → AllEntered arcs
-sealed_entered n arcs sealed a l =
-    let x = sealed.arc a l in
-    record { low = x.placed.0; high = omega (arith, x.placed.1, sealed.few); start = x.noded.0; end = x.noded.1 }
+-- so what is read at an arc of a sealed chart, in two filled tables
+module _ {X A : Type 0} (t : Ghosts X A) (laws : Lawful t) (n : ℕ) (arcs : List Arc) (sealed : Sealed n arcs) (s : Case) (price : ℕ → ℤ) (small : (i : ℕ) → nat_abs (price i) ≤ steep) (fore back : List A) (ahead : Forward t n arcs s price fore) (home : Backward t n arcs s price back) (fore_long : length fore ≡ 1056) (back_long : length back ≡ 1056) where
+  pub record Read (a : ℕ) (x y : A) : Type 0 where
+    pub front : x ≡ amount_before t arcs s price a
+    pub behind : y ≡ amount_behind t n arcs s price a
+    pub front_small : t.size x < wide
+    pub back_small : t.size y < wide
 
-module _ (n : ℕ) (arcs : List Arc) (sealed : Sealed n arcs) (s : Case) (prices : List ℤ) (fore back : List (Option ℤ)) (ahead : Forward leasts n arcs s (price_at prices) fore) (home : Backward leasts n arcs s (price_at prices) back) where
-  -- two filled tables serve the test
-  pub tabled : length arcs ≤ length prices → ((i : ℕ) → nat_abs (price_at prices i) ≤ steep) → length fore ≡ 1056 → length back ≡ 1056 → Tabled arcs prices fore back
-  tabled priced small fl bl = record {
-    entered = sealed_entered n arcs sealed;
-    priced = priced;
-    small = λ a l. omega (arith, small a);
-    fronts_long = fl;
-    backs_long = bl;
-    front_small = λ a l. subst (λ (o : Option ℤ). least_size o < wide) (sym (read_before n arcs sealed a l leasts s (price_at prices) fore back ahead)) (before_small n arcs sealed a l s (price_at prices) small);
-    back_small = λ a l. subst (λ (o : Option ℤ). least_size o < wide) (sym (read_behind n arcs sealed a l leasts s (price_at prices) fore back home)) (behind_small n arcs sealed a l s (price_at prices) small);
-  }
-
-  -- what they say
-  pub table_below_lem : (share mark : ℤ) (a : ℕ) → a < length arcs → table_below arcs prices fore back share mark a ≡ kept_below n arcs s (price_at prices) share mark a
-  table_below_lem share mark a l =
-      ap (λ (o : Option ℤ). below (least_extend (through_arc o (price_at prices a) (get_or back (end_entry (arc_at arcs a)) None)) share) mark) (read_before n arcs sealed a l leasts s (price_at prices) fore back ahead)
-      ∙ ap (λ (o : Option ℤ). below (least_extend (through_arc (amount_before leasts arcs s (price_at prices) a) (price_at prices a) o) share) mark) (read_behind n arcs sealed a l leasts s (price_at prices) fore back home)
+  pub read : (items : List Arc) → items ≡ arcs → (a : ℕ) → a < length items → (k m p q : ℕ) (x y : A) → k ≡ (arc_at items a).place → m ≡ (arc_at items a).place → p ≡ entry k (arc_at items a).start → q ≡ entry (m + 1) (arc_at items a).end → x ≡ get_or fore p x → y ≡ get_or back q y → Read a x y
+  read items is a l k m p q x y ek em ep eq ex ey =
+      let there : a < length arcs = omega (arith, ap length is) in
+      let front = read_before n arcs sealed a there t laws s price small fore fore_long p x ex ahead (ep ∙ ap (λ j. entry j (arc_at items a).start) ek ∙ ap (λ (xs : List Arc). entry (arc_at xs a).place (arc_at xs a).start) is) in
+      let behind = read_behind n arcs sealed a there t laws s price small back back_long q y ey home (eq ∙ ap (λ j. entry (j + 1) (arc_at items a).end) em ∙ ap (λ j. entry j (arc_at items a).end) (add-one (arc_at items a).place) ∙ ap (λ (xs : List Arc). entry (suc (arc_at xs a).place) (arc_at xs a).end) is) in
+      record {
+        front = front;
+        behind = behind;
+        front_small = subst (λ o. t.size o < wide) (sym front) (before_small n arcs sealed a there t laws s price small);
+        back_small = subst (λ o. t.size o < wide) (sym behind) (behind_small n arcs sealed a there t laws s price small);
+      }

@@ -6,4 +6,4 @@ pub mod Minima
 pub mod Pricing
 pub mod Keeping
 pub mod Passed
-pub mod Taking
+pub mod Sifting

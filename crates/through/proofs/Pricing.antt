@@ -1,6 +1,6 @@
 -- The amounts of standing plans, from the prices of the standing arcs and the limits' share. Assumes nothing.
-use Rattle.std.proofs.Common.{◌≡◌, ℕ, suc, ◌*◌, ◌<◌, ◌≤◌, Bool, true, false, cond, ◌&&◌, ltb, List, [], ◌∷◌, length, ℤ, pos, ◌+ℤ◌, nat_abs, Option, sym, refl, ap, ◌∙◌, subst, ap₂, arith}
-use Rattle.std.proofs.lemmas.Bool.{and_parts, and_from, lt-ltb, ltb-true, cond-true}
+use Rattle.std.proofs.Common.{◌≡◌, ℕ, suc, ◌*◌, ◌<◌, ◌≤◌, Bool, true, false, cond, ◌&&◌, ltb, List, [], ◌∷◌, length, ℤ, pos, ◌+ℤ◌, nat_abs, Option, sym, refl, ap, ◌∙◌, subst, ap₂, inl, inr, arith}
+use Rattle.std.proofs.lemmas.Bool.{and_parts, and_from, lt-ltb, le-ltb, ltb-true, cond-true, cases_lt}
 use Rattle.terms.specs.declared.arc.Arc.{Arc}
 use Rattle.plans.specs.Arcs.{arc_at, Sealed}
 use Rattle.plans.specs.Plans.{Path, In}
@@ -73,40 +73,32 @@ pub least_small : (n : ℕ) (arcs : List Arc) → Sealed n arcs → (s : Case) (
 least_small n arcs sealed s price small =
     subst (λ (o : Option ℤ). least_size o < wide) (least_standing price n arcs s) (amount_narrow leasts least_lawful n arcs sealed s price small 1 0 (root_node n arcs sealed))
 
--- the share as it is passed
-module _ (us : List Rule) (zs : List ℤ) (asked : Priceable us zs) (range : InRange us) (z : ℤ) (is : z ≡ owed us zs) where
-  -- it is not too large
-  narrow : nat_abs z < wide
-  narrow = rw is (share_small us zs asked range)
+-- prices filled in arc by arc are those of the standing arcs
+pub filled_in : (us : List Rule) (zs : List ℤ) (arcs : List Arc) (s : Case) (price : ℕ → ℤ) → ((a : ℕ) → a < length arcs → price a ≡ cond (s a) (arc_price us zs (arc_at arcs a)) (pos 0)) → ((a : ℕ) → length arcs ≤ a → price a ≡ pos 0) → (a : ℕ) → price a ≡ standing_price us zs arcs s a
+filled_in us zs arcs s price done rest a = elim (cases_lt a (length arcs)) [
+  | inl l ↦ done a l ∙ ap (λ b. cond (b && s a) (arc_price us zs (arc_at arcs a)) (pos 0)) (sym (lt-ltb a (length arcs) l))
+  | inr h ↦ rest a h ∙ ap (λ b. cond (b && s a) (arc_price us zs (arc_at arcs a)) (pos 0)) (sym (le-ltb a (length arcs) h))
+]
 
-  -- so it arrives as it is
-  pub share_passed : passed z ≡ owed us zs
-  share_passed = passed_is z narrow ∙ is
+-- with them a chart can be swept
+pub sweepable : (n : ℕ) (arcs : List Arc) → Sealed n arcs → (us : List Rule) (zs : List ℤ) → Priceable us zs → InRange us → (on : List Bool) → length arcs ≤ length on → (prices : List ℤ) → length prices ≡ 1024 → ((a : ℕ) → price_at prices a ≡ standing_price us zs arcs (marked on) a) → Sweepable arcs on prices
+sweepable n arcs sealed us zs asked range on marks prices long filled = record {
+  marks = marks;
+  priced = omega (arith, sealed.count);
+  small = λ a. subst (λ z. nat_abs z ≤ steep) (sym (filled a)) (price_small n arcs us zs (marked on) asked range (sealed_gridded n arcs sealed) a);
+}
 
-  pub share_narrow : nat_abs (passed z) < wide
-  share_narrow = rw (passed_is z narrow) narrow
+-- what they serve for
+module _ (n : ℕ) (arcs : List Arc) (sealed : Sealed n arcs) (us : List Rule) (zs : List ℤ) (on : List Bool) (prices : List ℤ) (small : (a : ℕ) → nat_abs (price_at prices a) ≤ steep) (filled : (a : ℕ) → price_at prices a ≡ standing_price us zs arcs (marked on) a) (x : Option ℤ) (is : x ≡ amount_in (price_sum (price_at prices)) (cheapest (price_sum (price_at prices)) (standing n arcs (marked on)))) where
+  -- a least sum that is not too large
+  pub sum_small : least_size x < 3 * wide
+  sum_small =
+      let h = subst (λ (o : Option ℤ). least_size o < wide) (sym is) (least_small n arcs sealed (marked on) (price_at prices) small) in
+      omega arith
 
--- what the prices of the standing arcs of a chart, once they are filled in, serve for
-module _ (n : ℕ) (arcs : List Arc) (sealed : Sealed n arcs) (us : List Rule) (zs : List ℤ) (asked : Priceable us zs) (range : InRange us) (on : List Bool) (marks : length arcs ≤ length on) (prices : List ℤ) (long : length prices ≡ 1024) (filled : (a : ℕ) → price_at prices a ≡ standing_price us zs arcs (marked on) a) where
-  -- no price is too large
-  small : (a : ℕ) → nat_abs (price_at prices a) ≤ steep
-  small a =
-      subst (λ z. nat_abs z ≤ steep) (sym (filled a)) (price_small n arcs us zs (marked on) asked range (sealed_gridded n arcs sealed) a)
-
-  -- for a sweep
-  pub sweepable : Sweepable arcs on prices
-  sweepable = record { marks = marks; priced = omega (arith, sealed.count); small = small }
-
-  module _ (x : Option ℤ) (is : x ≡ amount_in (price_sum (price_at prices)) (cheapest (price_sum (price_at prices)) (standing n arcs (marked on)))) where
-    -- for a least sum that is not too large
-    pub sum_small : least_size x < 3 * wide
-    sum_small =
-        let h = subst (λ (o : Option ℤ). least_size o < wide) (sym is) (least_small n arcs sealed (marked on) (price_at prices) small) in
-        omega arith
-
-    -- and for the least amount
-    pub with_share : (z : ℤ) → z ≡ owed us zs → least_extend x (passed z) ≡ amount_in (amount (problem n arcs us) zs) (cheapest (amount (problem n arcs us) zs) (standing n arcs (marked on)))
-    with_share z e =
-        ap (least_extend x) (share_passed us zs asked range z e)
-        ∙ ap (λ (o : Option ℤ). least_extend o (owed us zs)) is
-        ∙ least_is n arcs us zs (marked on) (price_at prices) filled
+  -- and the least amount, which is that sum and the share
+  pub with_share : (z : ℤ) → z ≡ owed us zs → nat_abs z < wide → least_extend x (passed z) ≡ amount_in (amount (problem n arcs us) zs) (cheapest (amount (problem n arcs us) zs) (standing n arcs (marked on)))
+  with_share z e narrow =
+      ap (least_extend x) (passed_is z narrow ∙ e)
+      ∙ ap (λ (o : Option ℤ). least_extend o (owed us zs)) is
+      ∙ least_is n arcs us zs (marked on) (price_at prices) filled

@@ -1,13 +1,11 @@
 -- Which arcs are kept, by the amounts before and behind each. Assumes nothing.
-use Rattle.std.specs.Prelude.{◌≡◌, ℕ, suc, ◌+◌, ◌*◌, ◌<◌, ◌≤◌, Bool, false, ◌&&◌, List, length, ℤ, Some, None, Option, int_lt, slice_index_or, unsigned_abs}
+use Rattle.std.specs.Prelude.{◌≡◌, ℕ, suc, ◌<◌, ◌≤◌, Bool, true, false, not, ◌&&◌, List, length, ℤ, Some, None, Option, int_lt}
 use Rattle.terms.specs.declared.arc.Arc.{Arc}
 use Rattle.plans.specs.Arcs.{arc_at}
-use Rattle.plans.specs.Cases.{Case}
-use Rattle.tallies.specs.Laws.{wide}
-use Rattle.tallies.specs.Kinds.{least_extend, least_size}
+use Rattle.plans.specs.Cases.{Case, size}
+use Rattle.tallies.specs.Kinds.{least_extend}
 use Rattle.tallies.specs.declared.tally.Tally.{Ghosts}
-use Rattle.ways.specs.Amounts.{price_at, forward_amount, backward_amount, entry}
-use Rattle.ways.specs.Sums.{leasts, reaches}
+use Rattle.ways.specs.Amounts.{marked, price_at, forward_amount, backward_amount}
 
 -- the least amount of the plans through an arc: that before it, its price and that behind it, where there is such a plan
 abbrev pub through_arc : Option ℤ → ℤ → Option ℤ → Option ℤ
@@ -26,45 +24,23 @@ amount_before t arcs s price a = forward_amount t arcs s price (arc_at arcs a).p
 abbrev pub amount_behind : {X A : Type 0} → Ghosts X A → ℕ → List Arc → Case → (ℕ → ℤ) → ℕ → A
 amount_behind t n arcs s price a = backward_amount t n arcs s price (suc (arc_at arcs a).place) (arc_at arcs a).end
 
--- so arc a is kept: by the least amounts, and by reach
-abbrev pub kept_below : ℕ → List Arc → Case → (ℕ → ℤ) → ℤ → ℤ → ℕ → Bool
-kept_below n arcs s price share mark a =
-    below (least_extend (through_arc (amount_before leasts arcs s price a) (price a) (amount_behind leasts n arcs s price a)) share) mark
+-- the test by the least amounts: with the share, the least amount of the plans through the arc is below the mark
+abbrev pub below_mark : ℤ → ℤ → ℤ → Option ℤ → Option ℤ → Bool
+below_mark share mark x front back = below (least_extend (through_arc front x back) share) mark
 
-abbrev pub kept_reached : ℕ → List Arc → Case → (ℕ → ℤ) → ℕ → Bool
-kept_reached n arcs s price a = amount_before reaches arcs s price a && amount_behind reaches n arcs s price a
+-- the test by reach: both ends are reached
+abbrev pub both_reached : ℤ → Bool → Bool → Bool
+both_reached x front back = front && back
 
--- the entries of a table for the nodes at which an arc starts and ends
-abbrev pub start_entry : Arc → ℕ
-start_entry x = entry x.place x.start
+-- of each arc that is marked, what is said of its price, the amount before it and the amount behind it is whether it is to be
+-- kept
+abbrev pub Tells : {X A : Type 0} → Ghosts X A → ℕ → List Arc → List Bool → List ℤ → (ℤ → A → A → Bool → Type 0) → Case → Type 0
+Tells t n arcs on prices says keep =
+    (a : ℕ) (r : Bool) → a < length arcs → marked on a ≡ true → says (price_at prices a) (amount_before t arcs (marked on) (price_at prices) a) (amount_behind t n arcs (marked on) (price_at prices) a) r → r ≡ keep a
 
-abbrev pub end_entry : Arc → ℕ
-end_entry x = 32 * x.place + x.end
-
--- an arc whose entries a table of 1,056 has
-pub record Entered (x : Arc) : Type 0 where
-  pub low : 1 ≤ x.place
-  pub high : x.place ≤ 32
-  pub start : x.start < 32
-  pub end : x.end < 32
-
-abbrev pub AllEntered : List Arc → Type 0
-AllEntered arcs = (a : ℕ) → a < length arcs → Entered (arc_at arcs a)
-
--- the same by two tables
-abbrev pub table_below : List Arc → List ℤ → List (Option ℤ) → List (Option ℤ) → ℤ → ℤ → ℕ → Bool
-table_below arcs prices fronts backs share mark a =
-    below (least_extend (through_arc (slice_index_or fronts (start_entry (arc_at arcs a)) None) (price_at prices a) (slice_index_or backs (end_entry (arc_at arcs a)) None)) share) mark
-
-abbrev pub table_reached : List Arc → List Bool → List Bool → ℕ → Bool
-table_reached arcs fronts backs a = slice_index_or fronts (start_entry (arc_at arcs a)) false && slice_index_or backs (end_entry (arc_at arcs a)) false
-
--- tables of 1,056 entries and prices for each arc, none of them too large at an arc
-pub record Tabled (arcs : List Arc) (prices : List ℤ) (fronts backs : List (Option ℤ)) : Type 0 where
-  pub entered : AllEntered arcs
-  pub priced : length arcs ≤ length prices
-  pub small : (a : ℕ) → a < length arcs → unsigned_abs (price_at prices a) < wide
-  pub fronts_long : length fronts ≡ 1056
-  pub backs_long : length backs ≡ 1056
-  pub front_small : (a : ℕ) → a < length arcs → least_size (slice_index_or fronts (start_entry (arc_at arcs a)) None) < wide
-  pub back_small : (a : ℕ) → a < length arcs → least_size (slice_index_or backs (end_entry (arc_at arcs a)) None) < wide
+-- of the first n marks those of the arcs that are to be kept are left, and the others are taken away and counted; the marks
+-- behind them are as they were
+pub record Sifted (keep : Case) (n : ℕ) (old new : List Bool) (count : ℕ) : Type 0 where
+  pub marks : (a : ℕ) → a < n → marked new a ≡ (marked old a && keep a)
+  pub rest : (a : ℕ) → n ≤ a → marked new a ≡ marked old a
+  pub answer : count ≡ size (λ a. marked old a && not (keep a)) n

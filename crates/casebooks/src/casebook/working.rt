@@ -8,8 +8,7 @@ ghost use Rattle.through.specs.Pricings.{Priceable};
 ghost use Rattle.casebooks.specs.Views.{problem_of, model_of};
 
 use crate::casebook::{Claim, Desk};
-use pricing::price::{least_amount, priced_plan};
-use pricing::strike::strike;
+use pricing::Pricing;
 use pricing::trim::trim;
 use rules::bank::Bank;
 use sweeps::least::first_plan;
@@ -40,7 +39,8 @@ impl Desk {
         ensures plan { plan.new ≡ written (first_plan (problem_of self.now (B.Bank.rules bank.now)) multipliers.now (top (model_of self.now).pile)) plan.old }
     {
         let standing = self.working();
-        priced_plan(&self.chart, bank, multipliers, &standing, plan)
+        let pricing = Pricing::new(bank, multipliers);
+        pricing.priced_plan(&self.chart, &standing, plan)
     }
 
     /// Whether a plan stands in the working case; writes the first that does.
@@ -61,8 +61,9 @@ impl Desk {
         ensures { result ≡ undercut_by (mark_of (model_of self.now).claimed) (least (problem_of self.now (B.Bank.rules bank.now)) multipliers.now (top (model_of self.now).pile)) }
     {
         let standing = self.working();
+        let pricing = Pricing::new(bank, multipliers);
         below(
-            least_amount(&self.chart, bank, multipliers, &standing),
+            pricing.least_amount(&self.chart, &standing),
             self.claim.mark(),
         )
     }
@@ -76,13 +77,8 @@ impl Desk {
         ensures model { model_of self.new ≡ (keeping (problem_of self.old (B.Bank.rules bank.now)) (model_of self.old) (cheaply (problem_of self.old (B.Bank.rules bank.now)) (model_of self.old) multipliers.now)).left }
     {
         let mut standing = self.working();
-        let removed = strike(
-            &self.chart,
-            bank,
-            multipliers,
-            self.claim.mark(),
-            &mut standing,
-        );
+        let pricing = Pricing::new(bank, multipliers);
+        let removed = pricing.strike(&self.chart, self.claim.mark(), &mut standing);
         self.keep(&standing);
         removed
     }

@@ -7,6 +7,6 @@ use Rattle.pricing.proofs.price.least_sum.Goals as goal
 
 pub returns : goal.returns
 returns c =
-    let n = places_of c.args.chart.now in
-    let arcs = arcs_of c.args.chart.now in
-    c.backward.ensures 1 0 (root_node n arcs c.places.ensures.sealed) ∙ least_standing (price_at c.args.prices.now) n arcs (marked c.args.standing.now)
+    let n = places_of c.args.priced.now.chart.now in
+    let arcs = arcs_of c.args.priced.now.chart.now in
+    c.backward.ensures 1 0 (root_node n arcs c.args.priced.now.chart.now.sealed) ∙ least_standing (price_at c.args.priced.now.prices.now) n arcs (marked c.args.priced.now.standing.now)
