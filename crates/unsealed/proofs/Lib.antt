@@ -1,4 +1,3 @@
-pub mod Turns
 pub mod Sets
 pub mod Entries
 pub mod Answered
