@@ -8,11 +8,6 @@ use Rattle.std.proofs.lemmas.List.{get_or_append_left}
 use Rattle.lines.specs.Forms.{Short, ShortZ}
 use Rattle.lines.specs.Texts.{Digit, Tight, TightZ, ahead}
 
--- the first byte, where it is known
-pub front : (l : List ℕ) (b : ℕ) → 0 < b → ahead l ≡ b → l ≡ b ∷ drop 1 l
-front [] b h e = absurd (omega arith)
-front (c ∷ l) b h e = ap (λ x. x ∷ l) e
-
 -- n is read of l, and rest is left
 pub record Sofar (l : List ℕ) (n : ℕ) (rest : List ℕ) : Type 0 where
   pub short : Short n
@@ -53,9 +48,9 @@ minus l l₁ rest n e big h f tight =
     (subst ShortZ (sym is) (subst Short (sym one) h), e ∙ ap (λ t. 45 ∷ t) (f ∙ ap (λ m. decimal m ++ rest) (sym one)) ∙ ap (λ z. signed_decimal z ++ rest) (sym is), subst (λ z. TightZ z rest) (sym is) (subst (λ m. Tight m rest) (sym one) tight))
 
 -- what `peek` saw and `skip` left
-pub stepped : (l l₁ : List ℕ) (b r : ℕ) → 0 < b → r ≡ ahead l → r ≡ b → l₁ ≡ drop 1 l → l ≡ b ∷ l₁
-stepped l l₁ b r some saw is left = front l b some (sym saw ∙ is) ∙ ap (λ t. b ∷ t) (sym left)
+pub stepped : (l l₁ : List ℕ) (b c : ℕ) → l ≡ c ∷ drop 1 l → c ≡ b → l₁ ≡ drop 1 l → l ≡ b ∷ l₁
+stepped l l₁ b c saw is left = saw ∙ ap (λ x. x ∷ drop 1 l) is ∙ ap (λ t. b ∷ t) (sym left)
 
--- the first digit, which `peek` saw
-pub begun : (l l₁ : List ℕ) (d r : ℕ) → r ≡ ahead l → Digit r × (r ≡ 48 + d) → l₁ ≡ drop 1 l → l ≡ decimal d ++ l₁
-begun l l₁ d r saw (dig, is) left = stepped l l₁ (48 + d) r (omega arith) saw is left ∙ ap (λ t. t ++ l₁) (sym (decimal_digit d (omega arith)))
+-- the first digit
+pub begun : (l l₁ : List ℕ) (d : ℕ) → Digit (48 + d) × (l ≡ (48 + d) ∷ l₁) → l ≡ decimal d ++ l₁
+begun l l₁ d (dig, e) = e ∙ ap (λ t. t ++ l₁) (sym (decimal_digit d (omega arith)))

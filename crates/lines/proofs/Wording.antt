@@ -3,6 +3,10 @@ use Rattle.std.proofs.Common.{◌≡◌, ℕ, zero, suc, ◌+◌, ◌<◌, ◌�
 use mathlib.Core.List.{append_cancel_left}
 use Rattle.std.proofs.lemmas.List.{take-take, take_all, get_or-take, get_or_append_left, get_or-map, length-take-le}
 use Rattle.std.proofs.lemmas.Bool.{cases_lt, cond-true, eq-eqb, and_parts, false≢true}
+use Rattle.std.specs.declared.cmp.Ordering.{Ordering}
+use Rattle.std.specs.declared.cmp.Ordering.TheVariants.{Less, Equal, Greater}
+use Rattle.std.specs.Ordering.{ord_max, nat_cmp, is_lt}
+use Rattle.std.specs.Cmp.{nat_cmp_is}
 use Rattle.lines.specs.declared.word.Word.{Word}
 use Rattle.lines.specs.declared.word.Word.TheVariants.{Casebook, Places, Arc, Once, Order, Budget, Seal, Claim, Price, Sample, Strike, Trim, Split, Close, Offer, Verdict}
 use Rattle.lines.specs.Texts.{Stops, Halts, Open, Is, Piece, Free, Ends}
@@ -67,21 +71,26 @@ pub record Tried (i : ℕ) (l : List ℕ) (best : ℕ) : Type 0 where
 pub tried_none : (l : List ℕ) → Tried 0 l 0
 tried_none l = record { within = omega arith; live = (spelt Seal, (Seal, [], tt, (λ d. omega arith), sym (append-nil (spelt Seal)))); each = λ j lt. absurd (omega arith) }
 
+-- the greater of two
+greater : (a b r : ℕ) → r ≡ ord_max nat_cmp a b → ((r ≡ b) × (a ≤ b)) ⊎ ((r ≡ a) × (b ≤ a))
+greater a b r e = ⊎_elim (λ lt. inr (e ∙ at (sym (nat_cmp_is b a Less lt)), omega arith)) (λ le. inl (e ∙ ⊎_elim (λ lt. at (sym (nat_cmp_is b a Greater lt))) (λ ge. at (sym (nat_cmp_is b a Equal (omega arith)))) (cases_lt a b), le)) (cases_lt b a)
+  where
+    at : {o : Ordering} → nat_cmp b a ≡ o → ord_max nat_cmp a b ≡ cond (is_lt o) a b
+    at same = ap (λ o. cond (is_lt o) a b) same
+
 -- one more word that does not begin the text
-pub tried_more : (i : ℕ) (l : List ℕ) (best n b : ℕ) → Tried i l best → Agrees l (spelt (get_or words i Casebook)) n → ((b ≡ n) × (best ≤ n)) ⊎ ((b ≡ best) × (n ≤ best)) → Tried (i + 1) l b
-tried_more i l best n b s a (inl (e, le)) = record {
-  within = omega (arith, a.in_text);
-  live = subst (λ k. (t : List ℕ) × AnyWord (take k l ++ t)) (sym e) (drop n (spelt w), (w, [], tt, (λ d. omega arith), ap (λ t. t ++ drop n (spelt w)) a.same ∙ take-append-drop n (spelt w) ∙ sym (append-nil (spelt w))));
-  each = below_more _ i (λ j lt. let o = s.each j lt in (o.0, omega (arith, o.1), o.2)) (n, omega arith, stops_agreed l (spelt w) n a);
+pub tried_more : (i : ℕ) (l : List ℕ) (best n b : ℕ) → Tried i l best → Agrees l (spelt (get_or words i Casebook)) n → b ≡ ord_max nat_cmp best n → Tried (i + 1) l b
+tried_more i l best n b s a most = record {
+  within = ⊎_elim (λ g. omega (arith, a.in_text)) (λ g. omega (arith, s.within)) (greater best n b most);
+  live = ⊎_elim (λ g. at n g.0 (drop n (spelt w), (w, [], tt, (λ d. omega arith), ap (λ t. t ++ drop n (spelt w)) a.same ∙ take-append-drop n (spelt w) ∙ sym (append-nil (spelt w))))) (λ g. at best g.0 s.live) (greater best n b most);
+  each = below_more _ i (λ j lt. let o = s.each j lt in (o.0, ⊎_elim (λ g. omega (arith, o.1)) (λ g. omega (arith, o.1)) (greater best n b most), o.2)) (n, ⊎_elim (λ g. omega arith) (λ g. omega arith) (greater best n b most), stops_agreed l (spelt w) n a);
 }
   where
     w : Word
     w = get_or words i Casebook
-tried_more i l best n b s a (inr (e, le)) = record {
-  within = omega (arith, s.within);
-  live = subst (λ k. (t : List ℕ) × AnyWord (take k l ++ t)) (sym e) s.live;
-  each = below_more _ i (λ j lt. let o = s.each j lt in (o.0, omega (arith, o.1), o.2)) (n, omega arith, stops_agreed l (spelt (get_or words i Casebook)) n a);
-}
+
+    at : (k : ℕ) → b ≡ k → ((t : List ℕ) × AnyWord (take k l ++ t)) → (t : List ℕ) × AnyWord (take b l ++ t)
+    at k e live = subst (λ k. (t : List ℕ) × AnyWord (take k l ++ t)) (sym e) live
 
 -- a set that stops at k has no text that goes on past it
 beyond : (M : List ℕ → Type 0) (l : List ℕ) (k best : ℕ) → Stops M l k → k ≤ best → best < length l → (t : List ℕ) → M (take (best + 1) l ++ t) → ⊥

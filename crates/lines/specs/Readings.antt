@@ -1,5 +1,6 @@
 -- What is read of a line. Assumes nothing.
 use Rattle.std.specs.Prelude.{◌≡◌, ℕ, List, ℤ, Ok, Err, Result}
+use Rattle.lines.specs.declared.Impossible.{Impossible as Why}
 use Rattle.lines.specs.declared.form.Form.{Form as Read}
 use Rattle.lines.specs.declared.form.Form.TheVariants as read
 use Rattle.lines.specs.Forms.{Form, Casebook, Places, Arc, Once, Order, Budget, Seal, Claim, Price, Sample, Strike, Trim, Split, Close, Offer, Verdict, Proper, text}
@@ -33,6 +34,6 @@ pub record Says (l : List ℕ) (g : Read) : Type 0 where
   pub whole : text form ≡ l
 
 -- r is what is to be read of the line l: the form that it is, or the place of its first impossible byte
-abbrev pub Reads : List ℕ → Result Read ℕ → Type 0
+abbrev pub Reads : List ℕ → Result Read Why → Type 0
 Reads l (Ok g) = Says l g
-Reads l (Err k) = FirstImpossible l k
+Reads l (Err why) = FirstImpossible l why.byte

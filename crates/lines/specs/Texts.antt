@@ -1,5 +1,5 @@
 -- Sets of texts, and where a reader of such a set stops. Assumes nothing.
-use Rattle.std.specs.Prelude.{◌≡◌, ℕ, suc, ◌+◌, ◌^◌, ◌<◌, ◌≤◌, ◌⊎◌, List, ◌∷◌, ◌++◌, length, take, drop, ℤ, pos, negsuc, Some, None, codes, decimal, Option, ◌≢◌, slice_index}
+use Rattle.std.specs.Prelude.{◌≡◌, ℕ, suc, ◌+◌, ◌^◌, ◌<◌, ◌≤◌, ◌⊎◌, List, [], ◌∷◌, ◌++◌, length, take, drop, ℤ, pos, negsuc, Some, None, codes, decimal, Option, ◌≢◌, slice_index}
 use Rattle.std.specs.List.{flat_map, AllByRecursion}
 use Rattle.std.specs.Int.{IsInRange}
 use Rattle.std.specs.Fmt.{signed_decimal}
@@ -94,6 +94,11 @@ TightZ (negsuc n) l = Tight (suc n) l
 -- anything may follow
 abbrev pub Free : {X : Type 0} → X → List ℕ → Type 0
 Free x l = Unit {0}
+
+-- what a look at the next byte answers
+abbrev pub Sees : List ℕ → Option ℕ → Type 0
+Sees l None = l ≡ []
+Sees l (Some b) = l ≡ b ∷ drop 1 l
 
 -- what a reader that expects the byte b answers: it passes it, or stays where another is next
 abbrev pub Passes : {X : Type 0} → ℕ → List ℕ → Option X → List ℕ → Type 0

@@ -5,9 +5,9 @@ mod entry;
 mod whole;
 mod wording;
 
-ghost use Rattle.std.specs.Prelude.{◌≡◌, ◌+◌, ◌-◌, ◌^◌, ◌<◌, ◌≤◌, ◌⊎◌, [], length, drop, codes, MatchBool, MatchOption};
+ghost use Rattle.std.specs.Prelude.{◌≡◌, ◌+◌, ◌-◌, ◌^◌, ◌<◌, ◌≤◌, ◌⊎◌, [], ◌∷◌, length, drop, codes, MatchBool, MatchOption};
 ghost use Rattle.lines.specs.Forms.{ShortZ};
-ghost use Rattle.lines.specs.Texts.{Counts, Digit, Ends, Is, Passes, Takes, TightZ, ahead};
+ghost use Rattle.lines.specs.Texts.{Counts, Digit, Ends, Is, Open, Passes, Sees, Takes, TightZ, ahead};
 ghost use Rattle.std.specs.Fmt.{signed_decimal};
 
 /// What is left of a line.
@@ -34,23 +34,19 @@ impl Reader<'_> {
         (line.len() - self.rest.len() + 1) as u16
     }
 
-    /// The next character, and NUL at the end.
-    fn peek(&self) -> char
-        ensures { result ≡ ahead self.now.rest.now }
+    /// The next character, if there is one.
+    fn peek(&self) -> Option<char>
+        ensures { Sees self.now.rest.now result }
     {
-        if self.rest.len() == 0 {
-            '\0'
-        } else {
-            self.rest[0] as char
-        }
+        self.rest.first().map(|byte| char::from(*byte))
     }
 
     /// Passes one character.
     pub(crate) fn skip(&mut self)
         ensures { self.new.rest.now ≡ drop 1 self.old.rest.now }
     {
-        if self.rest.len() > 0 {
-            self.rest = &self.rest[1..];
+        if let Some((_, rest)) = self.rest.split_first() {
+            self.rest = rest;
         }
     }
 
@@ -59,7 +55,7 @@ impl Reader<'_> {
         requires { 0 < want }
         ensures { Passes want self.old.rest.now result self.new.rest.now }
     {
-        if self.peek() == want {
+        if self.peek()? == want {
             self.skip();
             Some(())
         } else {
@@ -78,7 +74,7 @@ impl Reader<'_> {
     fn end(&mut self) -> Option<()>
         ensures { Ends (Is []) self.old.rest.now result self.new.rest.now }
     {
-        if self.rest.len() == 0 { Some(()) } else { None }
+        if self.rest.is_empty() { Some(()) } else { None }
     }
 
     /// The bracket that ends a form, and the end of the line.
@@ -93,28 +89,37 @@ impl Reader<'_> {
     pub(crate) fn number(&mut self) -> Option<u64>
         ensures { Counts self.old.rest.now result self.new.rest.now }
     {
-        let mut n = digit(self.peek())?;
-        self.skip();
+        let mut n = self.digit()?;
         while grows(n) {
-            match digit(self.peek()) {
-                Some(d) => {
-                    n = n * 10 + d;
-                    self.skip();
-                }
-                None => return Some(n),
-            }
+            let Some(d) = self.digit() else {
+                return Some(n);
+            };
+            n = n * 10 + d;
         }
         Some(n)
+    }
+
+    /// A digit.
+    fn digit(&mut self) -> Option<u64>
+        ensures { MatchOption result ((self.new.rest.now ≡ self.old.rest.now) × Open self.old.rest.now) (λ d. Digit (48 + d) × (self.old.rest.now ≡ (48 + d) ∷ self.new.rest.now)) }
+    {
+        match self.peek()? {
+            c @ '0'..='9' => {
+                self.skip();
+                Some(u64::from(c) - u64::from('0'))
+            }
+            _ => None,
+        }
     }
 
     /// A number with an optional minus, which never stands before 0.
     fn signed(&mut self) -> Option<i64>
         ensures { Takes signed_decimal ShortZ TightZ self.old.rest.now result self.new.rest.now }
     {
-        match self.peek() {
+        match self.peek()? {
             '-' => {
                 self.skip();
-                if !leads(self.peek()) {
+                if !self.leads() {
                     return None;
                 }
                 let n = self.number()?;
@@ -126,15 +131,12 @@ impl Reader<'_> {
             }
         }
     }
-}
 
-/// The value of a digit.
-fn digit(c: char) -> Option<u64>
-    ensures { MatchOption result (Digit c → ⊥) (λ d. Digit c × (c ≡ 48 + d)) }
-{
-    match c {
-        '0'..='9' => Some(c as u64 - '0' as u64),
-        _ => None,
+    /// Whether a number that a minus stands before can begin with the next character.
+    fn leads(&self) -> bool
+        ensures { MatchBool result ((49 ≤ ahead self.now.rest.now) × (ahead self.now.rest.now ≤ 57)) (49 ≤ ahead self.now.rest.now → ahead self.now.rest.now ≤ 57 → ⊥) }
+    {
+        matches!(self.peek(), Some('1'..='9'))
     }
 }
 
@@ -143,11 +145,4 @@ fn grows(n: u64) -> bool
     ensures { MatchBool result ((0 < n) × (n < 10 ^ 9)) ((n ≡ 0) ⊎ (10 ^ 9 ≤ n)) }
 {
     0 < n && n < 1_000_000_000
-}
-
-/// Whether a number that a minus stands before can begin with `c`.
-fn leads(c: char) -> bool
-    ensures { MatchBool result ((49 ≤ c) × (c ≤ 57)) (49 ≤ c → c ≤ 57 → ⊥) }
-{
-    '1' <= c && c <= '9'
 }

@@ -1,6 +1,6 @@
 //! The words with which forms begin.
-ghost use Rattle.std.specs.Prelude.{◌≡◌, ◌<◌, slice_index_or};
-ghost use Rattle.lines.specs.Words.{spelt, words};
+ghost use Rattle.std.specs.Prelude.{◌≡◌};
+ghost use Rattle.lines.specs.Words.{spelt};
 
 /// The word of a form.
 #[derive(Clone, Copy)]
@@ -24,33 +24,25 @@ pub(crate) enum Word {
 }
 
 impl Word {
-    /// How many words there are.
-    pub(crate) const COUNT: usize = 16;
-
-    /// The word at place `i` of the list of words.
-    pub(crate) fn nth(i: usize) -> Word
-        requires { i < 16 }
-        ensures { result ≡ slice_index_or words i Word.Casebook }
-    {
-        match i {
-            0 => Word::Casebook,
-            1 => Word::Places,
-            2 => Word::Arc,
-            3 => Word::Once,
-            4 => Word::Order,
-            5 => Word::Budget,
-            6 => Word::Seal,
-            7 => Word::Claim,
-            8 => Word::Price,
-            9 => Word::Sample,
-            10 => Word::Strike,
-            11 => Word::Trim,
-            12 => Word::Split,
-            13 => Word::Close,
-            14 => Word::Offer,
-            _ => Word::Verdict,
-        }
-    }
+    /// Every word, in the order in which they are tried.
+    pub(crate) const ALL: [Word; 16] = [
+        Word::Casebook,
+        Word::Places,
+        Word::Arc,
+        Word::Once,
+        Word::Order,
+        Word::Budget,
+        Word::Seal,
+        Word::Claim,
+        Word::Price,
+        Word::Sample,
+        Word::Strike,
+        Word::Trim,
+        Word::Split,
+        Word::Close,
+        Word::Offer,
+        Word::Verdict,
+    ];
 
     /// How the word is written.
     pub(crate) fn spelling(self) -> &'static [u8]

@@ -66,7 +66,7 @@ impl<'a> Reader<'a> {
         ensures { Ends (Many T.text T.short (41 ∷ after.now)) self.old.rest.now result self.new.rest.now }
     {
         loop {
-            match self.peek() {
+            match self.peek()? {
                 ' ' => {
                     self.skip();
                     T::read(self)?;
@@ -93,7 +93,7 @@ impl<'a> Reader<'a> {
     fn list(&mut self) -> Option<()>
         ensures { Ends Listed self.old.rest.now result self.new.rest.now }
     {
-        match self.peek() {
+        match self.peek()? {
             ')' => {
                 self.skip();
                 self.finish()

@@ -15,7 +15,7 @@ impl<'a> Reader<'a> {
         requires { length self.old.rest.now ≤ 4096 }
         ensures { MatchOption result (Halts Formed self.old.rest.now self.new.rest.now) (λ g. Says self.old.rest.now g) }
     {
-        match self.peek() {
+        match self.peek()? {
             '(' => {
                 self.skip();
                 let word = self.word()?;

@@ -12,17 +12,14 @@ impl Reader<'_> {
         ensures { Takes spelt Any Free self.old.rest.now result self.new.rest.now }
     {
         let mut best = 0;
-        for i in 0..Word::COUNT {
-            let word = Word::nth(i);
+        for word in Word::ALL {
             let spelling = word.spelling();
             let n = common(self.rest, spelling);
             if n == spelling.len() {
                 self.rest = &self.rest[n..];
                 return Some(word);
             }
-            if n > best {
-                best = n;
-            }
+            best = best.max(n);
         }
         self.rest = &self.rest[best..];
         None
