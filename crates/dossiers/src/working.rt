@@ -117,8 +117,6 @@ pub fn line<B: Bank>(book: &mut Casebook<B>, line: &[u8]) -> Result<Answer, Refu
     ensures replies { Replies (on_stage (stage_of B.Bank book.old)) (stage_of B.Bank book.old) line.now (replied_by result) (stage_of B.Bank book.new) }
     ensures theorem { (ls : List (List ℕ)) → Leads ls unread (stage_of B.Bank book.old) → Judged (problem_in B.Bank book.old) (model_in book.old) }
 {
-    match lines::read(line) {
-        Ok(form) => take(book, form),
-        Err(byte) => Err(Refusal::Grammar(byte)),
-    }
+    let form = lines::read(line)?;
+    take(book, form)
 }
