@@ -20,14 +20,14 @@ pub record Layout : Type 0 where
 abbrev pub used : ArcTable → List Arc
 used t = take t.count t.at
 
-abbrev pub draft_of : Draft → Layout
-draft_of d = record { places = d.places; arcs = used d.table }
-
 abbrev pub places_of : Chart → ℕ
 places_of c = c.places
 
 abbrev pub arcs_of : Chart → List Arc
 arcs_of c = used c.table
+
+abbrev pub draft_of : Draft → Layout
+draft_of d = record { places = places_of d.chart; arcs = arcs_of d.chart }
 
 -- a new draft has one place and no arcs
 abbrev pub new_draft : Layout

@@ -2,8 +2,8 @@
 //!
 //! The calls stand in `drafts` and `sealed`: a definition that names these structs cannot be cited in
 //! the file that declares their ghost fields.
-ghost use Rattle.std.specs.Prelude.{◌≡◌, ℕ, ◌<◌, ◌≤◌, length, slice_index_or};
-ghost use Rattle.plans.specs.Arcs.{no_arc, OnPlace, OnNodes, AtRoot, AtEnd, InRange};
+ghost use Rattle.std.specs.Prelude.{◌≡◌, ◌≤◌, length, take};
+ghost use Rattle.plans.specs.Arcs.{Sealed};
 
 use terms::arc::Arc;
 
@@ -17,34 +17,18 @@ pub struct ArcTable {
     pub count: usize,
 }
 
-/// A chart that is still drafted: its number of places, and its arcs in the order in which they came.
-#[derive(Drop)]
-pub struct Draft {
-    places: u8,
-    table: ArcTable,
-    ghost some: { 1 ≤ places },
-    ghost few: { places ≤ 32 },
-    ghost long: { length table.at ≡ 1024 },
-    ghost within: { table.count ≤ 1024 },
-    ghost placed: { (i : ℕ) → i < table.count → OnPlace places (slice_index_or table.at i no_arc) },
-    ghost noded: { (i : ℕ) → i < table.count → OnNodes (slice_index_or table.at i no_arc) },
-    ghost rooted: { (i : ℕ) → i < table.count → AtRoot (slice_index_or table.at i no_arc) },
-    ghost ended: { (i : ℕ) → i < table.count → AtEnd places (slice_index_or table.at i no_arc) },
-    ghost ranged: { (i : ℕ) → i < table.count → InRange (slice_index_or table.at i no_arc) },
-}
-
-/// A sealed chart: nothing of it changes any more.
+/// A sealed chart: nothing of it changes any more. It has 1 to 32 places and at most 1,024 arcs, each in range.
 #[derive(Drop)]
 pub struct Chart {
     places: u8,
     table: ArcTable,
-    ghost some: { 1 ≤ places },
-    ghost few: { places ≤ 32 },
     ghost long: { length table.at ≡ 1024 },
     ghost within: { table.count ≤ 1024 },
-    ghost placed: { (i : ℕ) → i < table.count → OnPlace places (slice_index_or table.at i no_arc) },
-    ghost noded: { (i : ℕ) → i < table.count → OnNodes (slice_index_or table.at i no_arc) },
-    ghost rooted: { (i : ℕ) → i < table.count → AtRoot (slice_index_or table.at i no_arc) },
-    ghost ended: { (i : ℕ) → i < table.count → AtEnd places (slice_index_or table.at i no_arc) },
-    ghost ranged: { (i : ℕ) → i < table.count → InRange (slice_index_or table.at i no_arc) },
+    ghost sealed: { Sealed places (take table.count table.at) },
+}
+
+/// A chart that is still drafted: its number of places may be set, and arcs come one after another.
+#[derive(Drop)]
+pub struct Draft {
+    chart: Chart,
 }

@@ -3,22 +3,16 @@ ghost use Rattle.plans.specs.Plans.{PlansListed, PlansEnd};
 ghost use Rattle.plans.specs.Words.{StandingMeans};
 
 /// The lists of plans and of partial plans have each of them once, and nothing else.
-pub fn plans_listed() -> u8
+pub fn plans_listed()
     ensures { PlansListed }
-{
-    0
-}
+{}
 
 /// On a sealed chart every plan ends at the end.
-pub fn plans_end() -> u8
+pub fn plans_end()
     ensures { PlansEnd }
-{
-    0
-}
+{}
 
 /// What the standing plans, the first of them and the first with the least amount are.
-pub fn standing_means() -> u8
+pub fn standing_means()
     ensures { StandingMeans }
-{
-    0
-}
+{}

@@ -1,11 +1,11 @@
 -- The rules of each make of bank. Assumes nothing.
-use Rattle.std.specs.Prelude.{ℕ, ◌+◌, ◌-◌, ◌*◌, Bool, cond, ◌&&◌, List, [], ◌∷◌, map, length, ℤ, pos, neg_ℤ, ◌==◌, nat_lt, slice_index_or}
+use Rattle.std.specs.Prelude.{ℕ, ◌+◌, ◌-◌, ◌*◌, Bool, cond, ◌&&◌, List, [], ◌∷◌, map, length, ℤ, pos, neg_ℤ, Some, None, Option, ◌==◌, nat_lt, slice_index_or}
 use Rattle.std.specs.Int.{int_max, int_min}
 use Rattle.terms.specs.declared.rule.Sense.TheVariants.{AtMost, Exactly}
 use Rattle.terms.specs.Routes.{in_set, members, routes_of}
 use Rattle.rules.specs.declared.order.Precedence.{Precedence}
 use Rattle.rules.specs.declared.pair.Side.{Side}
-use Rattle.rules.specs.declared.pair.Side.TheVariants.{Left, Right, Neither}
+use Rattle.rules.specs.declared.pair.Side.TheVariants.{Left, Right}
 use Rattle.rules.specs.Rules.{Rule}
 
 -- exactly one test of route q: it weighs 1 at every place, any other route 0
@@ -49,5 +49,5 @@ abbrev pub budget_rules : ℤ → List ℤ → List Rule
 budget_rules limit table = budget_rule limit table ∷ []
 
 -- which of two banks has a rule of their pair, and its number there, where the left one answers the count n; a rule above 128 is never asked
-abbrev pub side_of : ℕ → ℕ → Side
-side_of r n = cond (nat_lt r n) (Left r) (cond (nat_lt 128 r) Neither (Right (r - n)))
+abbrev pub side_of : ℕ → ℕ → Option Side
+side_of r n = cond (nat_lt r n) (Some (Left r)) (cond (nat_lt 128 r) None (Some (Right (r - n))))

@@ -24,28 +24,19 @@ impl<'a> Budget<'a> {
     }
 }
 
-// The limit, or the nearest bound.
-fn bounded_limit(limit: i64) -> i64
-    ensures { result ≡ clipped 1000000 limit }
+// A number, or the nearest of -most and most.
+fn bounded(number: i64, most: u32) -> i64
+    ensures { result ≡ clipped most number }
 {
-    limit.clamp(-1_000_000, 1_000_000)
-}
-
-// An entry, or the nearest bound.
-fn bounded_entry(entry: i64) -> i64
-    ensures { result ≡ clipped 10000 entry }
-{
-    entry.clamp(-10_000, 10_000)
+    let most = i64::from(most);
+    number.clamp(-most, most)
 }
 
 // An entry of the table, and 0 past its end.
 fn entry(table: &[i64], at: usize) -> i64
     ensures { result ≡ slice_index_or table.now at (pos 0) }
 {
-    if at >= table.len() {
-        return 0;
-    }
-    table[at]
+    table.get(at).copied().unwrap_or(0)
 }
 
 // What a route weighs at a place.
@@ -55,7 +46,7 @@ fn weighs(table: &[i64], place: u64, route: u64) -> i64
     requires route { route ≤ 63 }
     ensures { result ≡ budget_weight table.now place route }
 {
-    bounded_entry(entry(table, (64 * (place - 1) + route) as usize))
+    bounded(entry(table, (64 * (place - 1) + route) as usize), 10_000)
 }
 
 impl<'a> Bank for Budget<'a> {
@@ -68,22 +59,14 @@ impl<'a> Bank for Budget<'a> {
     }
 
     fn head(&self, rule: usize) -> Option<Head> {
-        if rule >= self.count() {
-            return None;
-        }
-        Some(Head {
+        (rule < self.count()).then_some(Head {
             sense: Sense::AtMost,
-            limit: bounded_limit(self.limit),
+            limit: bounded(self.limit, 1_000_000),
         })
     }
 
     fn weight(&self, rule: usize, place: u64, route: u64) -> Option<i64> {
-        if rule >= self.count() {
-            return None;
-        }
-        if !on_grid(place, route) {
-            return None;
-        }
-        Some(weighs(self.table, place, route))
+        let asked = rule < self.count() && on_grid(place, route);
+        asked.then(|| weighs(self.table, place, route))
     }
 }

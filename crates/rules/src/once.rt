@@ -43,22 +43,14 @@ impl Bank for Once {
     }
 
     fn head(&self, rule: usize) -> Option<Head> {
-        if rule >= self.count() {
-            return None;
-        }
-        Some(Head {
+        (rule < self.count()).then_some(Head {
             sense: Sense::Exactly,
             limit: 1,
         })
     }
 
     fn weight(&self, rule: usize, place: u64, route: u64) -> Option<i64> {
-        if rule >= self.count() {
-            return None;
-        }
-        if !on_grid(place, route) {
-            return None;
-        }
-        Some(weighs(self.routes, rule, route))
+        let asked = rule < self.count() && on_grid(place, route);
+        asked.then(|| weighs(self.routes, rule, route))
     }
 }

@@ -52,22 +52,15 @@ impl<'a> Bank for Order<'a> {
     }
 
     fn head(&self, rule: usize) -> Option<Head> {
-        if rule >= self.count() {
-            return None;
-        }
-        Some(Head {
+        (rule < self.count()).then_some(Head {
             sense: Sense::AtMost,
             limit: -1,
         })
     }
 
     fn weight(&self, rule: usize, place: u64, route: u64) -> Option<i64> {
-        if rule >= self.count() {
-            return None;
-        }
-        if !on_grid(place, route) {
-            return None;
-        }
-        Some(weighs(self.pairs[rule], place, route))
+        let pair = *self.pairs.get(rule)?;
+        let asked = rule < self.count() && on_grid(place, route);
+        asked.then(|| weighs(pair, place, route))
     }
 }

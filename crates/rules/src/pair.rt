@@ -23,24 +23,23 @@ impl<L, R> Pair<L, R> {
     }
 }
 
-// Which bank of the two has a rule, and its number there.
-#[derive(Clone, Copy, Drop)]
+// The bank of the two that has a rule, and the rule's number there.
+#[derive(Clone, Copy)]
 enum Side {
     Left(usize),
     Right(usize),
-    Neither,
 }
 
 // The side of a rule, where the left bank answers the count `count`.
-fn find(rule: usize, count: usize) -> Side
+fn find(rule: usize, count: usize) -> Option<Side>
     ensures { result ≡ side_of rule count }
 {
     if rule < count {
-        Side::Left(rule)
+        Some(Side::Left(rule))
     } else if rule > 128 {
-        Side::Neither
+        None
     } else {
-        Side::Right(rule - count)
+        Some(Side::Right(rule - count))
     }
 }
 
@@ -54,18 +53,16 @@ impl<L: Bank, R: Bank> Bank for Pair<L, R> {
     }
 
     fn head(&self, rule: usize) -> Option<Head> {
-        match find(rule, self.left.count()) {
+        match find(rule, self.left.count())? {
             Side::Left(rule) => self.left.head(rule),
             Side::Right(rule) => self.right.head(rule),
-            Side::Neither => None,
         }
     }
 
     fn weight(&self, rule: usize, place: u64, route: u64) -> Option<i64> {
-        match find(rule, self.left.count()) {
+        match find(rule, self.left.count())? {
             Side::Left(rule) => self.left.weight(rule, place, route),
             Side::Right(rule) => self.right.weight(rule, place, route),
-            Side::Neither => None,
         }
     }
 }

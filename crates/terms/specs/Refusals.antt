@@ -1,5 +1,6 @@
 -- The refusals: the number and the value beside each, and how the earliest row that holds is found. Assumes nothing.
-use Rattle.std.specs.Prelude.{ℕ, Bool, true, false, List, [], ◌∷◌, ℤ, pos, Some, None, Err, Option, Result}
+use Rattle.std.specs.Prelude.{ℕ, Bool, true, false, List, [], ◌∷◌, ◌++◌, ℤ, pos, Some, None, Err, Option, Result}
+use Rattle.std.specs.Fmt.{decimal, signed_decimal}
 use Rattle.terms.specs.declared.refusal.Refusal.{Refusal}
 use Rattle.terms.specs.declared.refusal.Refusal.TheVariants.{Grammar, NotHere, PlacesRange, PlacesLate, PlaceRange, NodeRange, RouteRange, MinutesRange, ArcsFull, ClaimRange, TooManyRules, MultiplierCount, MultiplierRange, NoCase, SplitPlace, OneSided, PileFull, ShortBuffer, OfferLength, NotConnected, BreaksRule, NotCheaper, NotClosed}
 
@@ -28,6 +29,10 @@ number_of (NotConnected place) = (20, pos place)
 number_of (BreaksRule rule) = (21, pos rule)
 number_of NotCheaper = (22, pos 0)
 number_of (NotClosed amount) = (23, amount)
+
+-- how a refusal is reported: its number, a blank and the value beside it
+abbrev pub reported : Refusal → List ℕ
+reported e = decimal (number_of e).0 ++ (32 ∷ signed_decimal (number_of e).1)
 
 -- a row of the table of refusals: the refusal where its cause holds
 abbrev pub when : Bool → Refusal → Option Refusal

@@ -2,7 +2,7 @@
 
 /// An arc of place `place`: from node `start` of that level to node `end` of the next.
 /// It tests `route` and takes `minutes`.
-#[derive(Clone, Copy, Drop)]
+#[derive(Clone, Copy, Debug, PartialEq, Eq)]
 pub struct Arc {
     pub place: u8,
     pub start: u8,
@@ -12,7 +12,7 @@ pub struct Arc {
 }
 
 /// An arc as a client gives it: any numbers, not judged yet.
-#[derive(Clone, Copy, Drop)]
+#[derive(Clone, Copy, Debug, PartialEq, Eq)]
 pub struct NewArc {
     pub place: u64,
     pub start: u64,

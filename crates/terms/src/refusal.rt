@@ -3,7 +3,7 @@ mod number;
 
 /// Why a call is refused. Where several causes hold, the earliest of this list is returned;
 /// a refused call leaves everything as it was.
-#[derive(Clone, Copy, Drop)]
+#[derive(Clone, Copy, Debug, PartialEq, Eq)]
 pub enum Refusal {
     /// The line is no form; with the first impossible byte, counted from 1.
     Grammar(u16),

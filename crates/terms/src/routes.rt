@@ -5,7 +5,7 @@ ghost use Rattle.terms.specs.Routes.{in_set, members, routes_of, with_route, acc
 use crate::refusal::Refusal;
 
 /// A set of routes 0 to 63: route `q` is in it where the bit of worth 2 to the power `q` is set.
-#[derive(Clone, Copy, Drop)]
+#[derive(Clone, Copy, Debug, PartialEq, Eq)]
 pub struct RouteSet {
     bits: u64,
 }

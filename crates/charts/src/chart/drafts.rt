@@ -1,5 +1,6 @@
 //! The calls on a draft.
-ghost use Rattle.std.specs.Prelude.{◌≡◌, not, ◌&&◌, length, nat_le};
+ghost use Rattle.std.specs.Prelude.{◌≡◌, ◌<◌, not, ◌&&◌, [], ◌∷◌, ◌++◌, length, nat_le};
+ghost use Rattle.plans.specs.Arcs.{ArcInRange};
 ghost use Rattle.charts.specs.Drafts.{draft_of, places_of, arcs_of, new_draft, on_places, off_nodes, arc_rows, as_arc, on_arc};
 
 use crate::chart::{ArcTable, Chart, Draft};
@@ -37,8 +38,22 @@ fn off_nodes(places: u8, new: NewArc) -> bool
 {
     let above = new.start > 31 || new.end > 31;
     let off_root = new.place == 1 && new.start != 0;
-    let off_end = new.place == places as u64 && new.end != 0;
+    let off_end = new.place == u64::from(places) && new.end != 0;
     above | (off_root | off_end)
+}
+
+impl Chart {
+    /// One arc more, behind the others.
+    fn push(&mut self, arc: Arc)
+        requires room { self.old.table.count < 1024 }
+        requires fits { ArcInRange self.old.places arc }
+        ensures places { places_of self.new ≡ places_of self.old }
+        ensures arcs { arcs_of self.new ≡ arcs_of self.old ++ arc ∷ [] }
+    {
+        let number = self.table.count;
+        self.table.at[number] = arc;
+        self.table.count = number + 1;
+    }
 }
 
 impl Draft {
@@ -47,14 +62,16 @@ impl Draft {
         ensures { draft_of result ≡ new_draft }
     {
         let table = empty_table();
-        Draft { places: 1, table }
+        Draft {
+            chart: Chart { places: 1, table },
+        }
     }
 
     /// The number of places.
     pub fn place_count(&self) -> u8
         ensures { result ≡ (draft_of self.now).places }
     {
-        self.places
+        self.chart.places
     }
 
     /// Sets the number of places, 1 to 32, while no arc is drafted. Answers it.
@@ -65,10 +82,10 @@ impl Draft {
         if outside(n, 32) {
             return Err(Refusal::PlacesRange);
         }
-        if self.table.count > 0 {
+        if self.chart.table.count > 0 {
             return Err(Refusal::PlacesLate);
         }
-        self.places = n as u8;
+        self.chart.places = n as u8;
         Ok(n)
     }
 
@@ -77,10 +94,10 @@ impl Draft {
         ensures reply { result ≡ (on_arc (draft_of self.old) new).answer }
         ensures left { draft_of self.new ≡ (on_arc (draft_of self.old) new).left }
     {
-        if outside(new.place, self.places as u64) {
+        if outside(new.place, u64::from(self.chart.places)) {
             return Err(Refusal::PlaceRange);
         }
-        if off_nodes(self.places, new) {
+        if off_nodes(self.chart.places, new) {
             return Err(Refusal::NodeRange);
         }
         if new.route > 63 {
@@ -89,18 +106,17 @@ impl Draft {
         if new.minutes > 10_000 {
             return Err(Refusal::MinutesRange);
         }
-        let number = self.table.count;
+        let number = self.chart.table.count;
         if number >= 1024 {
             return Err(Refusal::ArcsFull);
         }
-        self.table.at[number] = Arc {
+        self.chart.push(Arc {
             place: new.place as u8,
             start: new.start as u8,
             end: new.end as u8,
             route: new.route as u8,
             minutes: new.minutes as u16,
-        };
-        self.table.count = number + 1;
+        });
         Ok(number)
     }
 
@@ -109,9 +125,7 @@ impl Draft {
         ensures places { places_of result ≡ (draft_of self).places }
         ensures arcs { arcs_of result ≡ (draft_of self).arcs }
     {
-        Chart {
-            places: self.places,
-            table: self.table,
-        }
+        let Draft { chart } = self;
+        chart
     }
 }

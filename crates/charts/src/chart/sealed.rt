@@ -26,17 +26,13 @@ impl Chart {
     pub fn arcs(&self) -> &[Arc]
         ensures { result.now ≡ arcs_of self.now }
     {
-        &self.table.at[0..self.table.count]
+        &self.table.at[..self.table.count]
     }
 
     /// The arc of a number, if there is one.
     pub fn arc(&self, number: usize) -> Option<Arc>
         ensures { result ≡ arc_numbered (arcs_of self.now) number }
     {
-        if number < self.table.count {
-            Some(self.table.at[number])
-        } else {
-            None
-        }
+        self.arcs().get(number).copied()
     }
 }

@@ -1,8 +1,9 @@
 //! The number of a refusal, and the value beside it.
-ghost use Rattle.std.specs.Prelude.{◌≡◌};
-ghost use Rattle.terms.specs.Refusals.{number_of};
+ghost use Rattle.std.specs.Prelude.{◌≡◌, Some};
+ghost use Rattle.terms.specs.Refusals.{number_of, reported};
 
 use super::Refusal;
+use std::fmt;
 
 impl Refusal {
     /// The number by which a refusal is reported, and the value beside it.
@@ -34,5 +35,14 @@ impl Refusal {
             Refusal::NotCheaper => (22, 0),
             Refusal::NotClosed(amount) => (23, amount),
         }
+    }
+}
+
+impl fmt::Display for Refusal {
+    ghost output = { λ e. Some (reported e) };
+
+    fn fmt<W: fmt::Write>(&self, f: &mut fmt::Formatter<W>) -> fmt::Result {
+        let (number, value) = self.number();
+        write!(f, "{number} {value}")
     }
 }

@@ -4,8 +4,14 @@ use Rattle.rules.proofs.pair.PairBank.head.Goals as goal
 
 pub returns-in-Left : goal.returns-in-Left
 returns-in-Left g c =
-    c.head.ensures ∙ same_head (same_left _ _ _ _ c.in-Left.rule c.count.ensures c.in-Left.ensures)
+    let told = c.in_ok-rule.was in
+    let here = c.in-Left.is in
+    let found = c.find.ensures in
+    c.head.ensures ∙ same_head (same_left _ _ _ _ c.in-Left.rule c.count.ensures (cc))
 
 pub returns-in-Right : goal.returns-in-Right
 returns-in-Right g c =
-    c.head-in-Right.ensures ∙ same_head (same_right _ _ _ _ c.in-Right.rule c.count.ensures c.in-Right.ensures)
+    let told = c.in_ok-rule.was in
+    let here = c.in-Right.is in
+    let found = c.find.ensures in
+    c.head-in-Right.ensures ∙ same_head (same_right _ _ _ _ c.in-Right.rule c.count.ensures (cc))
