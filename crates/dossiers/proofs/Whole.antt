@@ -13,7 +13,8 @@ use Rattle.judging.specs.Theorem.{Posed, Meant}
 use Rattle.judging.proofs.Finish.{run_both}
 use Rattle.judging.proofs.Means.{verdict_means}
 use Rattle.lines.specs.Forms.{Form, Casebook, Places, Arc, Once, Order, Budget, Seal, Claim, Price, Sample, Strike, Trim, Split, Close, Offer, Verdict}
-use Rattle.unsealed.specs.Items.{some, no_route, set_of}
+use Rattle.std.specs.List.{list_any}
+use Rattle.unsealed.specs.Items.{no_route, set_of}
 use Rattle.unsealed.specs.Books.{Book, set_in, limit_in, rules_of}
 use Rattle.unsealed.specs.Stages.{Drafted, counted, on_begun, on_unbegun, on_form, places_rows, on_places}
 use Rattle.unsealed.specs.Replies.{Replies, ByForm, ByByte}
@@ -109,7 +110,7 @@ naming_calls t m xs o call same = go (naming_rows t xs) refl
 -- so does a split
 split_calls : (t : Problem) (m : Model) (place : ℕ) (qs : List ℕ) → Calls t m (on_work t m (Split place qs)).left
 split_calls t m place qs =
-    elim (cases_Bool (some no_route qs)) [
+    elim (cases_Bool (list_any no_route qs)) [
       | inl e ↦ ([], rw e)
       | inr e ↦ (split place (set_of qs) ∷ [], rw e)
     ]

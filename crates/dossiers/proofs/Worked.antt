@@ -13,12 +13,12 @@ use Rattle.judging.specs.Cases.{Model}
 use Rattle.judging.specs.Calls.{on_sample, on_split, on_offer, too_many_rules}
 use Rattle.lines.specs.declared.form.Form.{Form as Read}
 use Rattle.lines.specs.declared.form.Form.TheVariants as read
-use Rattle.lines.specs.declared.form.NumberItems.{NumberItems}
-use Rattle.lines.specs.declared.form.TripleItems.{TripleItems}
+use Rattle.lines.specs.declared.form.Items.{Items}
 use Rattle.lines.specs.Forms.{Form, Sample, Split, Offer}
 use Rattle.lines.specs.Readings.{Means}
-use Rattle.unsealed.specs.Items.{some, no_route, set_of, as_set, routes_read}
-use Rattle.dossiers.specs.declared.multipliers.Multipliers.{Multipliers}
+use Rattle.std.specs.List.{list_any}
+use Rattle.unsealed.specs.Items.{no_route, set_of, as_set, routes_read}
+use Rattle.arrayvec.specs.ArrayVec.{ArrayVec}
 use Rattle.dossiers.specs.Tolds.{Told, count_told, plan_told}
 use Rattle.dossiers.specs.Namings.{named, naming_causes, ReadAs}
 use Rattle.dossiers.specs.Works.{buffer, naming, counting, not_here, on_work}
@@ -34,8 +34,8 @@ made_by : {o p : Outcome Model Told} {r : Result Told Refusal} {m : Model} → o
 made_by e d = record { reply = d.reply ∙ ap (λ (q : Outcome Model Told). q.answer) e; left = d.left ∙ ap (λ (q : Outcome Model Told). q.left) e }
 
 -- where multipliers were read for as many rules as the bank counts, the call is made with them
-pub with_named : (t : Problem) (m : Model) (xs : List (ℕ × ℤ)) (n : ℕ) (read : Multipliers) (zs : List ℤ) (call : List ℤ → Outcome Model Told) {r : Result Told Refusal} {left : Model}
-    → n ≡ counted t.rules → ReadAs n xs (Ok read) → zs ≡ take read.count read.at → Made (call zs) r left → Made (naming t m xs call) r left
+pub with_named : (t : Problem) (m : Model) (xs : List (ℕ × ℤ)) (n : ℕ) (read : ArrayVec ℤ) (zs : List ℤ) (call : List ℤ → Outcome Model Told) {r : Result Told Refusal} {left : Model}
+    → n ≡ counted t.rules → ReadAs n xs (Ok read) → zs ≡ read.items → Made (call zs) r left → Made (naming t m xs call) r left
 with_named t m xs n read zs call c (none, e) f d =
     let k : ℕ = length t.rules in
     let z : naming_causes k xs ≡ None = sym (capped_causes k xs) ∙ ap (λ (j : ℕ). naming_causes j xs) (sym c) ∙ none in
@@ -48,7 +48,7 @@ with_named t m xs n read zs call c (none, e) f d =
 pub with_routes : (t : Problem) (m : Model) (place : ℕ) (qs : List ℕ) (s : RouteSet) {r : Result ℕ Refusal} {told : Result Told Refusal} {left : Model}
     → Ok s ≡ routes_read qs → told ≡ count_told r → r ≡ (on_split t m place s.bits).answer → left ≡ (on_split t m place s.bits).left → Made (on_work t m (Split place qs)) told left
 with_routes t m place qs s e f a l =
-    elim (cases_Bool (some no_route qs)) [
+    elim (cases_Bool (list_any no_route qs)) [
       | inl b ↦ absurd (never (rw b at e))
       | inr b ↦
           let same : s ≡ as_set (set_of qs) = let d = rw b at e in cc in
@@ -61,17 +61,9 @@ with_routes t m place qs s e f a l =
     never p = let z : ◌≡◌ {A = ℕ} 0 1 = cc in omega arith
 
 -- where a sample was written into the buffer, it is told by its first arcs
-pub with_sample : (t : Problem) (m : Model) (room plan : List ℕ) (n : ℕ) {r : Result Bool Refusal} {told : Result Told Refusal} {left : Model}
-    → room ≡ buffer → n ≡ t.places → told ≡ plan_told (take n plan) r → r ≡ (on_sample t m room).answer → plan ≡ (on_sample t m room).left.buffer → left ≡ (on_sample t m room).left.model
-    → Made (on_work t m Sample) told left
-with_sample t m room plan n e k f a p l = record {
-  reply =
-      f
-      ∙ ap₂ plan_told
-      (ap₂ (λ (j : ℕ) (x : List ℕ). take j x) k (p ∙ ap (λ (x : List ℕ). (on_sample t m x).left.buffer) e))
-      (a ∙ ap (λ (x : List ℕ). (on_sample t m x).answer) e);
-  left = l ∙ ap (λ (x : List ℕ). (on_sample t m x).left.model) e;
-}
+pub with_sample : (t : Problem) (m : Model) (plan : List ℕ) {r : Result Bool Refusal} {told : Result Told Refusal} {left : Model}
+    → told ≡ plan_told (take t.places plan) r → r ≡ (on_sample t m buffer).answer → plan ≡ (on_sample t m buffer).left.buffer → left ≡ (on_sample t m buffer).left.model → Made (on_work t m Sample) told left
+with_sample t m plan f a p l = record { reply = f ∙ ap₂ (λ (x : List ℕ) (q : Result Bool Refusal). plan_told (take t.places x) q) p a; left = l }
 
 -- an offer of another length than the chart has places is refused for its length, unless the bank has too many rules
 wrong_length_lem : (t : Problem) (m : Model) (p : List ℕ) → (length p ≡ t.places → ⊥) → on_offer t m p ≡ decided m (or_else (too_many_rules t) (Some OfferLength)) (record { answer = Ok 0; left = m })
@@ -100,8 +92,8 @@ with_arcs t m arcs read n k few e f a l =
 -- g is a form that drafts
 abbrev Drafts : Read → Type 0
 Drafts g =
-    (g ≡ read.Casebook) ⊎ (((n : ℕ) × (g ≡ read.Places n)) ⊎ (((x : NewArc) × (g ≡ read.Arc x)) ⊎ (((c : NumberItems) × (g ≡ read.Once c))
-    ⊎ (((a : ℕ) × (b : ℕ) × (g ≡ read.Order a b)) ⊎ (((z : ℤ) × (c : TripleItems) × (g ≡ read.Budget z c)) ⊎ (g ≡ read.Seal))))))
+    (g ≡ read.Casebook) ⊎ (((n : ℕ) × (g ≡ read.Places n)) ⊎ (((x : NewArc) × (g ≡ read.Arc x)) ⊎ (((c : Items ℕ) × (g ≡ read.Once c))
+    ⊎ (((a : ℕ) × (b : ℕ) × (g ≡ read.Order a b)) ⊎ (((z : ℤ) × (c : Items (ℕ × ℕ × ℤ)) × (g ≡ read.Budget z c)) ⊎ (g ≡ read.Seal))))))
 
 -- no such form is allowed after the seal
 pub drafting_form : (t : Problem) (m : Model) (g : Read) (f : Form) → Means g f → Drafts g → on_work t m f ≡ not_here m

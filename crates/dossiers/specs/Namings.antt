@@ -1,11 +1,11 @@
 -- The multipliers that a line names. Assumes nothing.
-use Rattle.std.specs.Prelude.{◌≡◌, ℕ, Bool, cond, List, [], ◌∷◌, length, take, replicate, ℤ, pos, Some, None, Ok, Err, Option, Result, ◌==◌, nat_le, nat_lt, slice_set}
+use Rattle.std.specs.Prelude.{◌≡◌, ℕ, Bool, cond, List, [], ◌∷◌, length, replicate, ℤ, pos, Some, None, Ok, Err, Option, Result, ◌==◌, nat_le, nat_lt, slice_set}
 use Rattle.terms.specs.declared.refusal.Refusal.{Refusal}
 use Rattle.terms.specs.declared.refusal.Refusal.TheVariants.{TooManyRules, MultiplierCount}
 use Rattle.terms.specs.Refusals.{when, earliest}
 use Rattle.rules.specs.Lawful.{Problem}
-use Rattle.unsealed.specs.Items.{some}
-use Rattle.dossiers.specs.declared.multipliers.Multipliers.{Multipliers}
+use Rattle.std.specs.List.{list_any}
+use Rattle.arrayvec.specs.ArrayVec.{ArrayVec}
 
 -- multipliers, with those that pairs (rule, multiplier) name written into them one after another
 abbrev pub naming : List ℤ → List (ℕ × ℤ) → List ℤ
@@ -27,12 +27,12 @@ unknown n x = nat_le n x.0
 
 -- over 128 rules; a multiplier for no rule
 abbrev pub naming_causes : ℕ → List (ℕ × ℤ) → Option Refusal
-naming_causes n xs = earliest (when (nat_lt 128 n) TooManyRules ∷ when (some (unknown n) xs) MultiplierCount ∷ [])
+naming_causes n xs = earliest (when (nat_lt 128 n) TooManyRules ∷ when (list_any (unknown n) xs) MultiplierCount ∷ [])
 
 abbrev pub naming_rows : Problem → List (ℕ × ℤ) → Option Refusal
 naming_rows t xs = naming_causes (length t.rules) xs
 
 -- what is read of the pairs xs for n rules: the multipliers that they name, or the refusal
-abbrev pub ReadAs : ℕ → List (ℕ × ℤ) → Result Multipliers Refusal → Type 0
-ReadAs n xs (Ok m) = (naming_causes n xs ≡ None) × (take m.count m.at ≡ named n xs)
+abbrev pub ReadAs : ℕ → List (ℕ × ℤ) → Result (ArrayVec ℤ) Refusal → Type 0
+ReadAs n xs (Ok m) = (naming_causes n xs ≡ None) × (m.items ≡ named n xs)
 ReadAs n xs (Err e) = naming_causes n xs ≡ Some e

@@ -6,7 +6,8 @@ use Rattle.rules.specs.Lawful.{Problem}
 use Rattle.judging.specs.Cases.{Model}
 use Rattle.judging.specs.Calls.{Lent, on_claim, on_price, on_sample, on_strike, on_trim, on_split, on_close, on_offer, verdict_of}
 use Rattle.lines.specs.Forms.{Form, Casebook, Places, Arc, Once, Order, Budget, Seal, Claim, Price, Sample, Strike, Trim, Split, Close, Offer, Verdict}
-use Rattle.unsealed.specs.Items.{some, no_route, set_of}
+use Rattle.std.specs.List.{list_any}
+use Rattle.unsealed.specs.Items.{no_route, set_of}
 use Rattle.dossiers.specs.Tolds.{Told, Word, count_told, amount_told, plan_told}
 use Rattle.dossiers.specs.Namings.{named, naming_rows}
 
@@ -46,7 +47,7 @@ on_work t m (Price xs) = naming t m xs (λ zs. pricing (on_price t m zs buffer))
 on_work t m Sample = sampling t.places (on_sample t m buffer)
 on_work t m (Strike xs) = naming t m xs (λ zs. counting (on_strike t m zs))
 on_work t m Trim = counting (on_trim t m)
-on_work t m (Split place qs) = decided m (when (some no_route qs) RouteRange) (counting (on_split t m place (set_of qs)))
+on_work t m (Split place qs) = decided m (when (list_any no_route qs) RouteRange) (counting (on_split t m place (set_of qs)))
 on_work t m (Close xs) = naming t m xs (λ zs. counting (on_close t m zs))
 on_work t m (Offer arcs) = counting (on_offer t m arcs)
 on_work t m Verdict = record { answer = Ok (Word (verdict_of t m)); left = m }

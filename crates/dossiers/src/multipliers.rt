@@ -1,16 +1,28 @@
 //! The multipliers that a line names.
-//!
-//! How they are read stands in a module below: a definition that names this struct cannot be cited in the file that
-//! declares its ghost fields.
-ghost use Rattle.std.specs.Prelude.{◌≡◌, ◌≤◌, length};
+ghost use Rattle.std.specs.Prelude.{◌≡◌, ℕ, List, ℤ};
+ghost use Rattle.lines.specs.Cursors.{HoldsPairs};
+ghost use Rattle.dossiers.specs.Namings.{ReadAs};
 
-mod reading;
+use arrayvec::ArrayVec;
+use lines::form::PairItems;
+use terms::refusal::Refusal;
 
-/// Multipliers, one for each of the first `count` rules.
-#[derive(Drop)]
-pub struct Multipliers {
-    at: [i64; 128],
-    count: usize,
-    ghost long: { length at ≡ 128 },
-    ghost few: { count ≤ 128 },
+/// The multipliers that a line names, one for each of so many rules: 0 where a rule is not named, and the last naming
+/// counts. A bank of over 128 rules and a multiplier for no rule are refused.
+pub fn named(items: PairItems, count: usize) -> Result<ArrayVec<i64, 128>, Refusal>
+    ensures { (xs : List (ℕ × ℤ)) → HoldsPairs xs items.entry → ReadAs count xs result }
+{
+    if count > 128 {
+        return Err(Refusal::TooManyRules);
+    }
+    let mut multipliers = ArrayVec::from([0; 128]);
+    multipliers.truncate(count);
+    for (rule, multiplier) in items {
+        let rule = rule as usize;
+        if rule >= multipliers.len() {
+            return Err(Refusal::MultiplierCount);
+        }
+        multipliers[rule] = multiplier;
+    }
+    Ok(multipliers)
 }

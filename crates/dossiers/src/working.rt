@@ -10,8 +10,8 @@ ghost use Rattle.dossiers.specs.Works.{on_work};
 ghost use Rattle.dossiers.specs.Dossiers.{on_stage, stage_of, unread, Leads, Judged};
 
 use crate::answer::{Answer, PlanArcs};
-use crate::multipliers::Multipliers;
-use crate::offers::OfferedArcs;
+use crate::multipliers::named;
+use crate::offers::offered;
 use casebooks::casebook::Casebook;
 use lines::form::{Form, NumberItems, PairItems};
 use rules::bank::Bank;
@@ -23,9 +23,9 @@ fn price<B: Bank>(book: &Casebook<B>, items: PairItems) -> Result<Answer, Refusa
     ensures reply { (xs : List (ℕ × ℤ)) → HoldsPairs xs items.entry → replied_by result ≡ (on_work (problem_in B.Bank book.now) (model_in book.now) (Price xs)).answer }
     ensures left { (xs : List (ℕ × ℤ)) → HoldsPairs xs items.entry → model_in book.now ≡ (on_work (problem_in B.Bank book.now) (model_in book.now) (Price xs)).left }
 {
-    let multipliers = Multipliers::read(items, book.rule_count())?;
+    let multipliers = named(items, book.rule_count())?;
     let mut plan = [0; 32];
-    let answer = book.price(multipliers.all(), &mut plan);
+    let answer = book.price(&multipliers, &mut plan);
     answer.map(|amount| amount.map_or(Answer::NoPlan, Answer::Amount))
 }
 
@@ -49,8 +49,8 @@ fn strike<B: Bank>(book: &mut Casebook<B>, items: PairItems) -> Result<Answer, R
     ensures left { (xs : List (ℕ × ℤ)) → HoldsPairs xs items.entry → model_in book.new ≡ (on_work (problem_in B.Bank book.old) (model_in book.old) (Strike xs)).left }
     ensures same { problem_in B.Bank book.new ≡ problem_in B.Bank book.old }
 {
-    let multipliers = Multipliers::read(items, book.rule_count())?;
-    book.strike(multipliers.all()).map(Answer::Count)
+    let multipliers = named(items, book.rule_count())?;
+    book.strike(&multipliers).map(Answer::Count)
 }
 
 /// Closes with the multipliers that a line names.
@@ -59,8 +59,8 @@ fn close<B: Bank>(book: &mut Casebook<B>, items: PairItems) -> Result<Answer, Re
     ensures left { (xs : List (ℕ × ℤ)) → HoldsPairs xs items.entry → model_in book.new ≡ (on_work (problem_in B.Bank book.old) (model_in book.old) (Close xs)).left }
     ensures same { problem_in B.Bank book.new ≡ problem_in B.Bank book.old }
 {
-    let multipliers = Multipliers::read(items, book.rule_count())?;
-    book.close(multipliers.all()).map(Answer::Count)
+    let multipliers = named(items, book.rule_count())?;
+    book.close(&multipliers).map(Answer::Count)
 }
 
 /// Splits at a place by the routes of a line.
@@ -81,9 +81,8 @@ fn offer<B: Bank>(book: &mut Casebook<B>, items: NumberItems) -> Result<Answer, 
     ensures same { problem_in B.Bank book.new ≡ problem_in B.Bank book.old }
 {
     let _ = book.places();
-    let arcs = OfferedArcs::read(items);
-    book.offer(arcs.all())
-        .map(|cost| Answer::Count(cost as usize))
+    let arcs = offered(items);
+    book.offer(&arcs).map(|cost| Answer::Count(cost as usize))
 }
 
 /// What a form is answered.
@@ -118,8 +117,6 @@ pub fn line<B: Bank>(book: &mut Casebook<B>, line: &[u8]) -> Result<Answer, Refu
     ensures replies { Replies (on_stage (stage_of B.Bank book.old)) (stage_of B.Bank book.old) line.now (replied_by result) (stage_of B.Bank book.new) }
     ensures theorem { (ls : List (List ℕ)) → Leads ls unread (stage_of B.Bank book.old) → Judged (problem_in B.Bank book.old) (model_in book.old) }
 {
-    match lines::read(line) {
-        Ok(form) => take(book, form),
-        Err(byte) => Err(Refusal::Grammar(byte)),
-    }
+    let form = lines::read(line)?;
+    take(book, form)
 }

@@ -1,6 +1,4 @@
-pub mod Turns
 pub mod Sets
 pub mod Entries
-pub mod Answered
 pub mod Sealing
 pub mod Meant

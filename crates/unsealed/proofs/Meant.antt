@@ -8,7 +8,8 @@ use Rattle.terms.specs.Routes.{in_set, with_route}
 use Rattle.terms.proofs.Members.{in_with, none_past}
 use Rattle.rules.specs.Rules.{on_grid}
 use Rattle.rules.specs.Makes.{clipped}
-use Rattle.unsealed.specs.Items.{some, no_route, gathered, place_outside, route_outside, entry_of, stored, last_weight}
+use Rattle.std.specs.List.{list_any}
+use Rattle.unsealed.specs.Items.{no_route, gathered, place_outside, route_outside, entry_of, stored, last_weight}
 use Rattle.unsealed.specs.Meanings.{ItemsMean}
 
 -- one of three, in another order
@@ -23,13 +24,13 @@ in_more : (bits r q : ℕ) → no_route r ≡ false → in_set (with_route bits 
 in_more bits r q e = rw (le-leb r 63 (ltb-false 63 r e)) (in_with bits r q)
 
 -- a set with the routes of a list put in
-in_gathered : (bits : ℕ) (qs : List ℕ) → some no_route qs ≡ false → (q : ℕ) → in_set (gathered bits qs) q ≡ (some (eqb q) qs || in_set bits q)
+in_gathered : (bits : ℕ) (qs : List ℕ) → list_any no_route qs ≡ false → (q : ℕ) → in_set (gathered bits qs) q ≡ (list_any (eqb q) qs || in_set bits q)
 in_gathered bits [] e q = refl
 in_gathered bits (r ∷ qs) e q =
-    let parts = or_parts (no_route r) (some no_route qs) e in
+    let parts = or_parts (no_route r) (list_any no_route qs) e in
     in_gathered (with_route bits r) qs parts.1 q
-    ∙ ap (λ (b : Bool). some (eqb q) qs || b) (in_more bits r q parts.0)
-    ∙ turned (some (eqb q) qs) (eqb q r) (in_set bits q)
+    ∙ ap (λ (b : Bool). list_any (eqb q) qs || b) (in_more bits r q parts.0)
+    ∙ turned (list_any (eqb q) qs) (eqb q r) (in_set bits q)
 
 -- the empty set has none
 in_none : (q : ℕ) → in_set 0 q ≡ false
@@ -72,12 +73,12 @@ entry_placed x p q =
     record { low = leb-true 1 x.0 range.0; high = leb-true x.0 32 range.1; small = ltb-false 63 x.1 q }
 
 -- all entries
-all_entries : (xs : List (ℕ × ℕ × ℤ)) (table : List ℤ) → length table ≡ 2048 → some (place_outside 32) xs ≡ false → some route_outside xs ≡ false → (place route : ℕ) → Placed place route
+all_entries : (xs : List (ℕ × ℕ × ℤ)) (table : List ℤ) → length table ≡ 2048 → list_any (place_outside 32) xs ≡ false → list_any route_outside xs ≡ false → (place route : ℕ) → Placed place route
     → get_or (stored table xs) (entry_of place route) (pos 0) ≡ last_weight xs place route (get_or table (entry_of place route) (pos 0))
 all_entries [] table long p q place route h = refl
 all_entries (x ∷ xs) table long p q place route h =
-    let ps = or_parts (place_outside 32 x) (some (place_outside 32) xs) p in
-    let qs = or_parts (route_outside x) (some route_outside xs) q in
+    let ps = or_parts (place_outside 32 x) (list_any (place_outside 32) xs) p in
+    let qs = or_parts (route_outside x) (list_any route_outside xs) q in
     all_entries xs (set table (entry_of x.0 x.1) x.2) (length-set table (entry_of x.0 x.1) x.2 ∙ long) ps.1 qs.1 place route h
     ∙ ap (λ (w : ℤ). last_weight xs place route w) (one_entry table x place route long (entry_placed x ps.0 qs.0) h)
 
@@ -90,7 +91,7 @@ grid place route e =
 
 pub items_mean : ItemsMean
 items_mean = record {
-  routes = λ qs e q. in_gathered 0 qs e q ∙ ap (λ (b : Bool). some (eqb q) qs || b) (in_none q) ∙ or-false (some (eqb q) qs);
+  routes = λ qs e q. in_gathered 0 qs e q ∙ ap (λ (b : Bool). list_any (eqb q) qs || b) (in_none q) ∙ or-false (list_any (eqb q) qs);
   weights = λ xs p q limit place route e.
       let h = grid place route e in
       let at = entry_of place route in

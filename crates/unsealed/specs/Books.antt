@@ -9,7 +9,8 @@ use Rattle.rules.specs.declared.order.Precedence.{Precedence}
 use Rattle.rules.specs.Rules.{Rule}
 use Rattle.rules.specs.Makes.{once_rules, order_rules, budget_rules}
 use Rattle.unsealed.specs.declared.book.RuleBook.{RuleBook}
-use Rattle.unsealed.specs.Items.{some, no_route, set_of, place_outside, route_outside, stored}
+use Rattle.std.specs.List.{list_any}
+use Rattle.unsealed.specs.Items.{no_route, set_of, place_outside, route_outside, stored}
 
 -- the rules drafted so far: the set of routes of once, if it came; the pairs of order; the limit of budget, if it came, and its
 -- table, which is 0 everywhere until then
@@ -47,7 +48,7 @@ rules_of b = once_rules (set_in b.once) ++ (order_rules b.pairs ++ budget_rules 
 
 -- ONCE comes at most once, and answers how many routes it names
 abbrev pub once_rows : Book → List ℕ → Option Refusal
-once_rows b qs = earliest (when (is_some b.once) NotHere ∷ when (some no_route qs) RouteRange ∷ [])
+once_rows b qs = earliest (when (is_some b.once) NotHere ∷ when (list_any no_route qs) RouteRange ∷ [])
 
 abbrev pub on_once : Book → List ℕ → Outcome Book ℕ
 on_once b qs = decided b (once_rows b qs) (record {
@@ -67,7 +68,7 @@ on_order b earlier later = decided b (order_rows b earlier later) (record {
 
 -- BUDGET comes at most once, and answers 1; n is the number of places
 abbrev pub budget_rows : Book → ℕ → List (ℕ × ℕ × ℤ) → Option Refusal
-budget_rows b n xs = earliest (when (is_some b.limit) NotHere ∷ when (some (place_outside n) xs) PlaceRange ∷ when (some route_outside xs) RouteRange ∷ [])
+budget_rows b n xs = earliest (when (is_some b.limit) NotHere ∷ when (list_any (place_outside n) xs) PlaceRange ∷ when (list_any route_outside xs) RouteRange ∷ [])
 
 abbrev pub on_budget : Book → ℕ → ℤ → List (ℕ × ℕ × ℤ) → Outcome Book ℕ
 on_budget b n limit xs = decided b (budget_rows b n xs) (record {

@@ -1,14 +1,10 @@
 -- What the items of a form name: a set of routes, and the entries of a table. Assumes nothing.
-use Rattle.std.specs.Prelude.{ℕ, ◌+◌, ◌-◌, ◌*◌, Bool, false, cond, not, ◌&&◌, ◌||◌, List, [], ◌∷◌, ℤ, Ok, Err, Result, ◌==◌, nat_le, nat_lt, slice_set}
+use Rattle.std.specs.Prelude.{ℕ, ◌+◌, ◌-◌, ◌*◌, Bool, cond, not, ◌&&◌, List, [], ◌∷◌, ℤ, Ok, Err, Result, ◌==◌, nat_le, nat_lt, slice_set}
+use Rattle.std.specs.List.{list_any}
 use Rattle.terms.specs.declared.refusal.Refusal.{Refusal}
 use Rattle.terms.specs.declared.refusal.Refusal.TheVariants.{RouteRange}
 use Rattle.terms.specs.declared.routes.RouteSet.{RouteSet}
 use Rattle.terms.specs.Routes.{with_route}
-
--- whether some item of a list is so
-abbrev pub some : {X : Type 0} → (X → Bool) → List X → Bool
-some p [] = false
-some p (x ∷ xs) = p x || some p xs
 
 -- whether a number is no route's
 abbrev pub no_route : ℕ → Bool
@@ -29,7 +25,7 @@ as_set bits = record { bits = bits }
 
 -- the set that a list of routes names, unless one is above 63
 abbrev pub routes_read : List ℕ → Result RouteSet Refusal
-routes_read qs = cond (some no_route qs) (Err RouteRange) (Ok (as_set (set_of qs)))
+routes_read qs = cond (list_any no_route qs) (Err RouteRange) (Ok (as_set (set_of qs)))
 
 -- whether an entry (place, route, weight) names a place outside 1 to n
 abbrev pub place_outside : ℕ → ℕ × ℕ × ℤ → Bool

@@ -106,10 +106,8 @@ impl Drafting {
         if lines::is_header(line) {
             return self.take(Form::Casebook);
         }
-        match lines::read(line) {
-            Ok(form) => self.take(form),
-            Err(byte) => Err(Refusal::Grammar(byte)),
-        }
+        let form = lines::read(line)?;
+        self.take(form)
     }
 
     /// Seals the chart: the dossier is moved into its chart, and its rules.

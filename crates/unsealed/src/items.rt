@@ -1,37 +1,22 @@
 //! What the items of a form name.
-ghost use Rattle.std.specs.Prelude.{◌≡◌, ℕ, ◌-◌, ◌^◌, min, List, set, ℤ, if◌then◌else◌, Ok, Err, slice_set};
-ghost use Rattle.terms.specs.declared.refusal.Refusal.TheVariants.{RouteRange};
+ghost use Rattle.std.specs.Prelude.{◌≡◌, ℕ, ◌-◌, ◌^◌, min, List, ℤ, slice_set};
+ghost use Rattle.std.specs.List.{list_any};
 ghost use Rattle.lines.specs.Cursors.{HoldsNumbers, HoldsTriples};
-ghost use Rattle.unsealed.specs.Items.{some, routes_read, place_outside, route_outside, entry_of, stored};
+ghost use Rattle.unsealed.specs.Items.{routes_read, place_outside, route_outside, entry_of, stored};
 
 use lines::form::{NumberItems, TripleItems};
 use terms::refusal::Refusal;
 use terms::routes::RouteSet;
 
-/// A set of routes, unless some route was outside.
-fn unless(outside: bool, routes: RouteSet) -> Result<RouteSet, Refusal>
-    ensures { result ≡ (if outside then Err RouteRange else Ok routes) }
-{
-    if outside {
-        Err(Refusal::RouteRange)
-    } else {
-        Ok(routes)
-    }
-}
-
 /// The set of the routes of a form; a route above 63 is refused.
-pub fn route_set(mut items: NumberItems) -> Result<RouteSet, Refusal>
+pub fn route_set(items: NumberItems) -> Result<RouteSet, Refusal>
     ensures { (qs : List ℕ) → HoldsNumbers qs items.entry → result ≡ routes_read qs }
 {
     let mut routes = RouteSet::none();
-    let mut outside = false;
-    for _ in 0..4096usize {
-        let Some(route) = items.next() else {
-            break;
-        };
-        outside = outside | routes.insert(route).is_err();
+    for route in items {
+        routes.insert(route)?;
     }
-    unless(outside, routes)
+    Ok(routes)
 }
 
 /// Whether the place of an entry lies outside 1 to `places`.
@@ -50,30 +35,16 @@ fn off_routes(entry: (u64, u64, i64)) -> bool
 
 /// Whether the place of some entry lies outside 1 to `places`.
 pub fn any_place_outside(mut items: TripleItems, places: u8) -> bool
-    ensures { (xs : List (ℕ × ℕ × ℤ)) → HoldsTriples xs items.entry → result ≡ some (place_outside places) xs }
+    ensures { (xs : List (ℕ × ℕ × ℤ)) → HoldsTriples xs items.entry → result ≡ list_any (place_outside places) xs }
 {
-    let mut found = false;
-    for _ in 0..4096usize {
-        let Some(entry) = items.next() else {
-            break;
-        };
-        found = found | off_places(entry, places);
-    }
-    found
+    items.any(|entry| off_places(entry, places))
 }
 
 /// Whether the route of some entry lies above 63.
 pub fn any_route_outside(mut items: TripleItems) -> bool
-    ensures { (xs : List (ℕ × ℕ × ℤ)) → HoldsTriples xs items.entry → result ≡ some route_outside xs }
+    ensures { (xs : List (ℕ × ℕ × ℤ)) → HoldsTriples xs items.entry → result ≡ list_any route_outside xs }
 {
-    let mut found = false;
-    for _ in 0..4096usize {
-        let Some(entry) = items.next() else {
-            break;
-        };
-        found = found | off_routes(entry);
-    }
-    found
+    items.any(off_routes)
 }
 
 /// Where the weight of a place and a route stands in a table; past the end of every table, where that number does not fit.
@@ -102,13 +73,10 @@ fn place(table: &mut [i64], entry: (u64, u64, i64))
 }
 
 /// Writes entries into a table, one after another, so that of two for one place and route the last counts.
-pub fn store(table: &mut [i64], mut items: TripleItems)
+pub fn store(table: &mut [i64], items: TripleItems)
     ensures { (xs : List (ℕ × ℕ × ℤ)) → HoldsTriples xs items.entry → table.new ≡ stored table.old xs }
 {
-    for _ in 0..4096usize {
-        let Some(entry) = items.next() else {
-            break;
-        };
+    for entry in items {
         place(table, entry);
     }
 }

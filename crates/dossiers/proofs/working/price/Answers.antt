@@ -11,9 +11,9 @@ pub returns : goal.returns
 returns g c =
     let t = problem_in g.B.Bank c.args.book.now in
     let m = model_in c.args.book.now in
-    let zs = c.all.result.now in
+    let zs = c.deref.result.now in
     let made : (xs : List (ℕ × ℤ)) → HoldsPairs xs c.args.items → Made (naming t m xs (λ zs. pricing (on_price t m zs buffer))) (replied_by c.map.result) m =
-    λ xs h. with_named t m xs c.rule_count.result c.in_ok-multipliers.multipliers zs (λ zs. pricing (on_price t m zs buffer)) c.rule_count.ensures (c.in_ok-multipliers.ensures xs h) c.all.ensures
+    λ xs h. with_named t m xs c.rule_count.result c.in_ok-multipliers.multipliers zs (λ zs. pricing (on_price t m zs buffer)) c.rule_count.ensures (c.in_ok-multipliers.ensures xs h) c.deref.ensures.0
     (record {
       reply = (search rules) ∙ ap amount_told (c.price-answer.ensures.reply);
       left = c.price-answer.ensures.left;

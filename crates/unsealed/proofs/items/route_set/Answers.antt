@@ -1,18 +1,11 @@
-use Rattle.std.proofs.Common.{◌∙◌}
-use Rattle.unsealed.proofs.Turns.{begins, goes_on, ends_here, ends_full}
-use Rattle.unsealed.proofs.Sets.{read_all, put_next, put_first}
+use Rattle.std.proofs.Common.{ℕ, ap}
+use Rattle.lines.proofs.Turns.{begins, goes_on}
+use Rattle.unsealed.proofs.Sets.{read, put_next}
 use Rattle.unsealed.proofs.items.route_set.Goals as goal
-use Rattle.unsealed.proofs.items.route_set.Goals.{else-loop-test, then-loop-test+in_default}
 
-pub loop-init : goal.loop-init
-loop-init c qs h = begins qs h h.few (put_first c.none-routes.result.bits c.none-routes.ensures qs)
+pub loop-route-init : goal.loop-route-init
+loop-route-init c qs h = begins qs c.into_iter-route-iterator.ensures.into_iter_gives h (ap (λ (bits : ℕ). read bits qs) c.none-routes.ensures)
 
-pub loop-preserved : goal.loop-preserved
-loop-preserved c qs h =
-    goes_on (c.loop.invariant qs h) c.in-Some.ensures
-    (put_next c.loop.routes.bits c.in-Some.route c.loop.outside c.insert.ensures.bits c.insert.ensures.answer c.is_err-outside.ensures.value)
-
-pub returns : goal.returns
-returns c qs h =
-    c.unless.ensures ∙ read_all c.loop.routes c.loop.outside
-    ∙ elim c.loop-test.branch [ else-loop-test w ↦ ends_full (c.loop.invariant qs h) w.loop-test.false | then-loop-test+in_default w ↦ ends_here (c.loop.invariant qs h) w.in_default.ensures ]
+pub loop-route-preserved : goal.loop-route-preserved
+loop-route-preserved c qs h =
+    goes_on (c.loop-route.invariant qs h) c.in-Some.ensures.steps (put_next c.loop-route.routes.bits c.in-Some.route c.insert.ensures.bits c.in_ok-insert.ensures.answer)

@@ -1,8 +1,12 @@
-use Rattle.unsealed.proofs.Answered.{by_form, by_header}
+use Rattle.std.proofs.Common.{length, sym, refl, ap, inl, arith}
+use Rattle.lines.specs.Forms.{Casebook}
 use Rattle.unsealed.proofs.drafting.Drafting.line.Goals as goal
 
+-- the header's text is the header, and is short
 pub returns-then-is_header : goal.returns-then-is_header
-returns-then-is_header c = by_header c.args.line.now (c.is_header.ensures.0 c.if-is_header.true) c.take.ensures.reply c.take.ensures.left
-
-pub returns-in-Ok : goal.returns-in-Ok
-returns-in-Ok c = by_form c.args.line.now c.in-Ok.form c.in-Ok.ensures.long c.in-Ok.ensures.reads c.take-in-Ok.ensures.reply c.take-in-Ok.ensures.left
+returns-then-is_header c =
+    let header = c.is_header.ensures.0 c.if-is_header.true in
+    record {
+      short = λ h. inl (record { form = Casebook; proper = tt; whole = sym header; answer = c.take.ensures.reply Casebook refl; after = c.take.ensures.left Casebook refl });
+      long = λ h. absurd (omega (arith, ap length header));
+    }
