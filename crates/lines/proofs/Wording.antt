@@ -2,14 +2,15 @@
 use Rattle.std.proofs.Common.{◌≡◌, ℕ, zero, suc, ◌+◌, ◌<◌, ◌≤◌, Bool, true, false, cond, ◌&&◌, eqb, ◌⊎◌, List, [], ◌∷◌, ◌++◌, map, length, get_or, take, drop, Some, None, Option, sym, refl, ap, ◌∙◌, subst, inl, inr, ⊎_elim, append_assoc, append-nil, arith, length-append, take-append-drop, below_more}
 use mathlib.Core.List.{append_cancel_left}
 use Rattle.std.proofs.lemmas.List.{take-take, take_all, get_or-take, get_or_append_left, get_or-map, length-take-le}
-use Rattle.std.proofs.lemmas.Bool.{cases_lt, cond-true, eq-eqb, and_parts, false≢true}
+use Rattle.std.proofs.lemmas.Bool.{cases_lt, cond-true, eqb-true, eq-eqb, and_parts, false≢true}
 use Rattle.std.specs.declared.cmp.Ordering.{Ordering}
 use Rattle.std.specs.declared.cmp.Ordering.TheVariants.{Less, Equal, Greater}
 use Rattle.std.specs.Ordering.{ord_max, nat_cmp, is_lt}
 use Rattle.std.specs.Cmp.{nat_cmp_is}
+use Rattle.std.specs.List.{zip, prefix_len}
 use Rattle.lines.specs.declared.word.Word.{Word}
 use Rattle.lines.specs.declared.word.Word.TheVariants.{Casebook, Places, Arc, Once, Order, Budget, Seal, Claim, Price, Sample, Strike, Trim, Split, Close, Offer, Verdict}
-use Rattle.lines.specs.Texts.{Stops, Halts, Open, Is, Piece, Free, Ends}
+use Rattle.lines.specs.Texts.{Shared, Stops, Halts, Open, Is, Piece, Free, Ends}
 use Rattle.lines.specs.Words.{spelt, words, Any}
 use Rattle.lines.specs.Items.{Told}
 use Rattle.lines.proofs.Halting.{halt_after}
@@ -41,21 +42,33 @@ AnyWord = Piece spelt Any (λ _. Open)
 abbrev Starts : List ℕ → List ℕ → Type 0
 Starts p t = (u : List ℕ) × (t ≡ p ++ u)
 
--- the text l and the word p, which does not begin it, have n bytes in common
-pub record Agrees (l p : List ℕ) (n : ℕ) : Type 0 where
-  pub in_text : n ≤ length l
-  pub in_word : n < length p
-  pub same : take n l ≡ take n p
-  -- no word of a form begins another
-  pub apart : n < length l → n < length p → get_or l n 0 ≡ get_or p n 0 → ⊥
+-- two bytes are the same
+abbrev pub tie : ℕ × ℕ → Bool
+tie p = eqb p.0 p.1
 
--- there a text stops to begin with the word
-stops_agreed : (l p : List ℕ) (n : ℕ) → Agrees l p n → Stops (Starts p) l n
-stops_agreed l p n a = record {
+-- so many as are the same from the front on
+pub shared : (t w : List ℕ) → Shared t w (prefix_len tie (zip t w))
+shared [] w = record { in_text = omega arith; in_word = omega arith; same = refl; apart = λ a b e. omega arith }
+shared (x ∷ t) [] = record { in_text = omega arith; in_word = omega arith; same = refl; apart = λ a b e. omega arith }
+shared (x ∷ t) (y ∷ w) = go (shared t w) (eqb x y) refl
+  where
+    n : ℕ
+    n = prefix_len tie (zip t w)
+
+    go : Shared t w n → (b : Bool) → eqb x y ≡ b → Shared (x ∷ t) (y ∷ w) (cond b (1 + n) 0)
+    go s false e = record { in_text = omega arith; in_word = omega arith; same = refl; apart = λ a b f. false≢true (sym e ∙ eq-eqb x y f) }
+    go s true e =
+        let one : suc n ≡ 1 + n = omega arith in
+        let first : x ≡ y = eqb-true x y e in
+        subst (Shared (x ∷ t) (y ∷ w)) one (record { in_text = omega (arith, s.in_text); in_word = omega (arith, s.in_word); same = (λ i. first i ∷ s.same i); apart = λ a b f. s.apart (omega arith) (omega arith) f })
+
+-- a text stops to begin with a word where it has no more bytes in common with it
+stops_agreed : (l p : List ℕ) (n : ℕ) → Shared l p n → n < length p → Stops (Starts p) l n
+stops_agreed l p n a short = record {
   within = a.in_text;
   before = (drop n p, ([], ap (λ t. t ++ drop n p) a.same ∙ take-append-drop n p ∙ sym (append-nil p)));
-  here = λ lt t m. a.apart lt a.in_word (sym (get_or_append_left (take (n + 1) l) t 0 n (front lt) ∙ get_or-take (n + 1) l n 0 (omega arith)) ∙ ap (λ x. get_or x n 0) m.1 ∙ get_or_append_left p m.0 0 n a.in_word);
-  whole = λ m. ⊎_elim (λ lt. a.apart lt a.in_word (ap (λ x. get_or x n 0) m.1 ∙ get_or_append_left p m.0 0 n a.in_word)) (λ le. omega (arith, ap length m.1, length-append p m.0, a.in_word)) (cases_lt n (length l));
+  here = λ lt t m. a.apart lt short (sym (get_or_append_left (take (n + 1) l) t 0 n (front lt) ∙ get_or-take (n + 1) l n 0 (omega arith)) ∙ ap (λ x. get_or x n 0) m.1 ∙ get_or_append_left p m.0 0 n short);
+  whole = λ m. ⊎_elim (λ lt. a.apart lt short (ap (λ x. get_or x n 0) m.1 ∙ get_or_append_left p m.0 0 n short)) (λ le. omega (arith, ap length m.1, length-append p m.0, short)) (cases_lt n (length l));
 }
   where
     front : n < length l → n < length (take (n + 1) l)
@@ -79,11 +92,11 @@ greater a b r e = ⊎_elim (λ lt. inr (e ∙ at (sym (nat_cmp_is b a Less lt)),
     at same = ap (λ o. cond (is_lt o) a b) same
 
 -- one more word that does not begin the text
-pub tried_more : (i : ℕ) (l : List ℕ) (best n b : ℕ) → Tried i l best → Agrees l (spelt (get_or words i Casebook)) n → b ≡ ord_max nat_cmp best n → Tried (i + 1) l b
-tried_more i l best n b s a most = record {
+pub tried_more : (i : ℕ) (l : List ℕ) (best n b : ℕ) → Tried i l best → Shared l (spelt (get_or words i Casebook)) n → n < length (spelt (get_or words i Casebook)) → b ≡ ord_max nat_cmp best n → Tried (i + 1) l b
+tried_more i l best n b s a short most = record {
   within = ⊎_elim (λ g. omega (arith, a.in_text)) (λ g. omega (arith, s.within)) (greater best n b most);
   live = ⊎_elim (λ g. at n g.0 (drop n (spelt w), (w, [], tt, (λ d. omega arith), ap (λ t. t ++ drop n (spelt w)) a.same ∙ take-append-drop n (spelt w) ∙ sym (append-nil (spelt w))))) (λ g. at best g.0 s.live) (greater best n b most);
-  each = below_more _ i (λ j lt. let o = s.each j lt in (o.0, ⊎_elim (λ g. omega (arith, o.1)) (λ g. omega (arith, o.1)) (greater best n b most), o.2)) (n, ⊎_elim (λ g. omega arith) (λ g. omega arith) (greater best n b most), stops_agreed l (spelt w) n a);
+  each = below_more _ i (λ j lt. let o = s.each j lt in (o.0, ⊎_elim (λ g. omega (arith, o.1)) (λ g. omega (arith, o.1)) (greater best n b most), o.2)) (n, ⊎_elim (λ g. omega arith) (λ g. omega arith) (greater best n b most), stops_agreed l (spelt w) n a short);
 }
   where
     w : Word
@@ -115,9 +128,9 @@ pub found : (l p : List ℕ) (n : ℕ) → take n l ≡ take n p → n ≡ lengt
 found l p n same all = sym (take-append-drop n l) ∙ ap (λ t. t ++ drop n l) (same ∙ take_all n p (omega arith))
 
 -- one text, and the end
-pub literal_none : (l p : List ℕ) (n : ℕ) → Agrees l p n → Halts (Is p) l (drop n l)
-literal_none l p n a =
-    let s = stops_agreed l p n a in
+pub literal_none : (l p : List ℕ) (n : ℕ) → Shared l p n → n < length p → Halts (Is p) l (drop n l)
+literal_none l p n a short =
+    let s = stops_agreed l p n a short in
     record {
       passed = n;
       left = refl;

@@ -13,6 +13,13 @@ ahead l = slice_index l 0
 abbrev pub Digit : ℕ → Type 0
 Digit b = IsInRange 48 57 b
 
+-- the texts l and p have n bytes in common at the front, and no more
+pub record Shared (l p : List ℕ) (n : ℕ) : Type 0 where
+  pub in_text : n ≤ length l
+  pub in_word : n ≤ length p
+  pub same : take n l ≡ take n p
+  pub apart : n < length l → n < length p → slice_index l n ≢ slice_index p n
+
 -- k bytes of l can begin a text of M, and the byte after them, or l's end, cannot follow
 pub record Stops (M : List ℕ → Type 0) (l : List ℕ) (k : ℕ) : Type 0 where
   pub within : k ≤ length l

@@ -144,5 +144,5 @@ impl Reader<'_> {
 fn grows(n: u64) -> bool
     ensures { MatchBool result ((0 < n) × (n < 10 ^ 9)) ((n ≡ 0) ⊎ (10 ^ 9 ≤ n)) }
 {
-    0 < n && n < 1_000_000_000
+    (1..1_000_000_000).contains(&n)
 }

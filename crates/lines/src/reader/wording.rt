@@ -1,6 +1,5 @@
 //! The word of a form.
-ghost use Rattle.std.specs.Prelude.{◌≡◌, ◌<◌, ◌≤◌, length, take, ◌≢◌, slice_index};
-ghost use Rattle.lines.specs.Texts.{Ends, Free, Is, Takes};
+ghost use Rattle.lines.specs.Texts.{Ends, Free, Is, Shared, Takes};
 ghost use Rattle.lines.specs.Words.{Any, spelt};
 
 use super::Reader;
@@ -37,13 +36,7 @@ impl Reader<'_> {
 
 /// How many bytes the two have in common at the front.
 fn common(text: &[u8], word: &[u8]) -> usize
-    ensures within { (result ≤ length text.now) × (result ≤ length word.now) }
-    ensures same { take result text.now ≡ take result word.now }
-    ensures apart { result < length text.now → result < length word.now → slice_index text.now result ≢ slice_index word.now result }
+    ensures { Shared text.now word.now result }
 {
-    let mut n = 0;
-    while n < text.len() && n < word.len() && text[n] == word[n] {
-        n += 1;
-    }
-    n
+    text.iter().zip(word).take_while(|(a, b)| a == b).count()
 }

@@ -17,4 +17,4 @@ returns-else-n-text c =
     let p = c.args.text.now in
     let n = c.common-n.result in
     subst (Halts (Is p) l) (sym (take_rest l n))
-    (literal_none l p n (record { in_text = c.common-n.ensures.within.0; in_word = omega (arith, c.common-n.ensures.within.1, c.if-n-text.false); same = c.common-n.ensures.same; apart = c.common-n.ensures.apart }))
+    (literal_none l p n c.common-n.ensures (omega (arith, c.common-n.ensures.in_word, c.if-n-text.false)))

@@ -1,9 +1,10 @@
-use Rattle.std.proofs.Common.{◌≡◌, ◌++◌, length, get_or, take, drop, sym, refl, ap, ◌∙◌, subst, arith}
+use Rattle.std.proofs.Common.{◌≡◌, ◌<◌, ◌++◌, length, get_or, take, drop, sym, refl, ap, ◌∙◌, subst, arith}
 use Rattle.std.proofs.lemmas.List.{take_rest}
 use Rattle.lines.specs.declared.word.Word.TheVariants.{Casebook}
+use Rattle.lines.specs.Texts.{Shared}
 use Rattle.lines.specs.Words.{spelt, words}
 use Rattle.lines.proofs.Halting.{halt_at}
-use Rattle.lines.proofs.Wording.{AnyWord, Tried, Agrees, tried_none, tried_more, tried_all, found}
+use Rattle.lines.proofs.Wording.{AnyWord, Tried, tried_none, tried_more, tried_all, found}
 use Rattle.lines.proofs.reader.Reader.word.Goals as goal
 
 pub loop-word-init : goal.loop-word-init
@@ -17,14 +18,13 @@ returns-then-n-spelling c =
     let e = c.spelling-spelling.ensures in
     (tt, c.loop-word.invariant.0 ∙ found l p n (c.common-n.ensures.same ∙ ap (take n) e) (c.if-n-spelling.true ∙ ap length e) ∙ ap (λ t. p ++ t) (sym (take_rest l n)), tt)
 
--- what `common` says of a word that does not begin the line
-agreed : (c : goal.After-max-best) → Agrees c.loop-word.self.rest.now (spelt (get_or words c.loop-word.word-index Casebook)) c.common-n.result
-agreed c =
-    subst (λ p. Agrees c.loop-word.self.rest.now p c.common-n.result) c.spelling-spelling.ensures
-    (record { in_text = c.common-n.ensures.within.0; in_word = omega (arith, c.common-n.ensures.within.1, c.if-n-spelling.false); same = c.common-n.ensures.same; apart = c.common-n.ensures.apart })
-
 pub loop-word-preserved : goal.loop-word-preserved
-loop-word-preserved c = (c.loop-word.invariant.0, tried_more _ _ c.loop-word.best c.common-n.result _ c.loop-word.invariant.1 (agreed c) c.max-best.ensures)
+loop-word-preserved c =
+    let e = c.spelling-spelling.ensures in (
+      c.loop-word.invariant.0,
+      tried_more _ _ c.loop-word.best c.common-n.result _ c.loop-word.invariant.1 (subst (λ p. Shared c.loop-word.self.rest.now p c.common-n.result) e c.common-n.ensures)
+          (subst (λ p. c.common-n.result < length p) e (omega (arith, c.common-n.ensures.in_word, c.if-n-spelling.false))) c.max-best.ensures,
+    )
 
 pub returns : goal.returns
 returns c =
