@@ -61,10 +61,6 @@ module _ {p l rest : List ℕ} where
   as_is : {b : ℕ} → Halts (Byte b (Is p)) l rest → Halts (Is (b ∷ p)) l rest
   as_is {b} h = halt_wider (Byte b (Is p)) (Is (b ∷ p)) l rest (λ t m. m.2 ∙ ap (λ x. b ∷ x) m.1) (λ t like m. (p, refl, m)) h
 
-  -- another byte is next
-  pub is_none : {b : ℕ} → (rest ≡ l) × (ahead l ≡ b → ⊥) → Halts (Is (b ∷ p)) l rest
-  is_none h = as_is (byte_none (p, refl) h)
-
   -- the byte is next, and the rest halts
   pub is_some : {b : ℕ} {l₁ : List ℕ} → l ≡ b ∷ l₁ → Halts (Is p) l₁ rest → Halts (Is (b ∷ p)) l rest
   is_some e h = as_is (byte_some e h)
@@ -72,14 +68,6 @@ module _ {p l rest : List ℕ} where
 -- a text that begins with no digit may stand after a number
 pub is_follows : (b : ℕ) (p : List ℕ) → (Digit b → ⊥) → Follows (Is (b ∷ p))
 is_follows b p apart = record { live = (b ∷ p, refl); un = λ t m d. apart (subst Digit (ap ahead m) d) }
-
--- the end
-pub end_none : (l : List ℕ) → (l ≡ [] → ⊥) → Halts (Is []) l l
-end_none [] more = absurd (more refl)
-end_none (b ∷ l) more = record { passed = 0; stops = record { within = omega arith; before = ([], refl); here = λ lt t m. go t m; whole = λ m. more m }; left = refl }
-  where
-    go : (t : List ℕ) → b ∷ t ≡ [] → ⊥
-    go t e = omega (arith, ap length e)
 
 -- one of two bytes
 pub either_none : (a b : ℕ) (M N : List ℕ → Type 0) (l : List ℕ) → Live M → (ahead l ≡ a → ⊥) → (ahead l ≡ b → ⊥) → Halts (Either (Byte a M) (Byte b N)) l l

@@ -13,10 +13,6 @@ pub record Goes (M : List ℕ → Type 0) (l l' : List ℕ) : Type 0 where
   pub halts : (rest : List ℕ) → Halts M l' rest → Halts M l rest
   pub whole : M l' → M l
 
--- before the first turn
-pub goes_none : (M : List ℕ → Type 0) (l : List ℕ) → Goes M l l
-goes_none M l = record { halts = λ r h. h; whole = λ m. m }
-
 -- texts of x, each after a blank, a bracket and then the text z
 module _ {X : Type 0} {text : X → List ℕ} {ok : X → Type 0} {tight : X → List ℕ → Type 0} (told : Told text ok tight) (some : (x : X) × ok x) (z : List ℕ) where
   -- one turn: a blank and a text, or the bracket

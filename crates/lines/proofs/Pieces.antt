@@ -5,7 +5,7 @@ use Rattle.std.proofs.Common.{◌≡◌, ℕ, suc, ◌≤◌, List, [], ◌∷�
 use Rattle.std.proofs.lemmas.Int.{to_z-of_z}
 use Rattle.std.specs.Fmt.{signed_decimal}
 use Rattle.lines.specs.Forms.{Short, ShortZ, ShortPair, ShortTriple, number, amount, pair, triple}
-use Rattle.lines.specs.Texts.{Halts, Digit, ahead, Tight, TightZ, Free, Open, Byte, Piece, Item, Counts, Takes}
+use Rattle.lines.specs.Texts.{Halts, Digit, ahead, Tight, Open, Byte, Piece, Item, Counts, Takes}
 use Rattle.lines.proofs.Numerals.{leading_most}
 use Rattle.lines.specs.Items.{Like}
 use Rattle.lines.proofs.Halting.{Live, Follows, halt_now, halt_after, halt_wider, byte_some, open_follows}
@@ -98,12 +98,6 @@ pub back : (z : ℤ) → ShortZ z → to_z w64 (of_z w64 z) ≡ z
 back (pos n) h = to_z-of_z w64 (pos n) (record { sfits = omega arith })
 back (negsuc n) h = to_z-of_z w64 (negsuc n) (record { sfits = omega arith })
 
--- what `amount` answers
-pub amount_whole : (z : ℤ) (l l₁ l₂ l₃ : List ℕ) → l ≡ 32 ∷ l₁ → ShortZ z × (l₁ ≡ signed_decimal z ++ l₂) × TightZ z l₂ → l₂ ≡ 41 ∷ l₃ → Takes amount ShortZ Free l (Some (to_z w64 (of_z w64 z))) l₃
-amount_whole z l l₁ l₂ l₃ e₁ (h, e₂, _) e₃ =
-    let P : ℤ → Type 0 = λ y. ShortZ y × (l ≡ amount y ++ l₃) × Unit {0} in
-    subst P (sym (back z h)) (h, e₁ ∙ ap (λ x. 32 ∷ x) (e₂ ∙ ap (λ x. signed_decimal z ++ x) e₃) ∙ sym (amount_text z l₃), tt)
-
 -- a bracket, a number and an amount
 pub as_pair : (N : List ℕ → Type 0) {l rest : List ℕ} → Halts (Byte 40 (Piece decimal Short (λ _. Amount N))) l rest → Halts (Piece pair ShortPair (λ _. N)) l rest
 as_pair N {l} {rest} h = halt_wider (Byte 40 (Piece decimal Short (λ _. Amount N))) (Piece pair ShortPair (λ _. N)) l rest into (λ t like m. out t m) h
@@ -114,12 +108,6 @@ as_pair N {l} {rest} h = halt_wider (Byte 40 (Piece decimal Short (λ _. Amount 
     out : (t : List ℕ) → Piece pair ShortPair (λ _. N) t → Byte 40 (Piece decimal Short (λ _. Amount N)) t
     out t ((n, z), u, (hn, hz), m, e) = (_, (n, _, hn, (z, u, hz, m, refl), refl), e ∙ pair_text n z u)
 
--- what `pair` answers
-pub pair_whole : (n : ℕ) (z : ℤ) (l l₁ l₂ l₃ : List ℕ) → l ≡ 40 ∷ l₁ → Short n × (l₁ ≡ decimal n ++ l₂) × Tight n l₂ → ShortZ z × (l₂ ≡ amount z ++ l₃) × Free z l₃ → Takes pair ShortPair Free l (Some (n, to_z w64 (of_z w64 z))) l₃
-pair_whole n z l l₁ l₂ l₃ e₁ (hn, e₂, _) (hz, e₃, _) =
-    let P : ℤ → Type 0 = λ y. ShortPair (n, y) × (l ≡ pair (n, y) ++ l₃) × Unit {0} in
-    subst P (sym (back z hz)) ((hn, hz), e₁ ∙ ap (λ x. 40 ∷ x) (e₂ ∙ ap (λ x. decimal n ++ x) e₃) ∙ sym (pair_text n z l₃), tt)
-
 -- a bracket, two numbers and an amount
 pub as_triple : (N : List ℕ → Type 0) {l rest : List ℕ} → Halts (Byte 40 (Piece decimal Short (λ _. Item (Amount N)))) l rest → Halts (Piece triple ShortTriple (λ _. N)) l rest
 as_triple N {l} {rest} h = halt_wider (Byte 40 (Piece decimal Short (λ _. Item (Amount N)))) (Piece triple ShortTriple (λ _. N)) l rest into (λ t like m. out t m) h
@@ -129,9 +117,3 @@ as_triple N {l} {rest} h = halt_wider (Byte 40 (Piece decimal Short (λ _. Item 
 
     out : (t : List ℕ) → Piece triple ShortTriple (λ _. N) t → Byte 40 (Piece decimal Short (λ _. Item (Amount N))) t
     out t ((m, n, z), u, (hm, hn, hz), q, e) = (_, (m, _, hm, (n, _, hn, (z, u, hz, q, refl), refl), refl), e ∙ triple_text m n z u)
-
--- what `triple` answers
-pub triple_whole : (m n : ℕ) (z : ℤ) (l l₁ l₂ l₃ l₄ : List ℕ) → l ≡ 40 ∷ l₁ → Short m × (l₁ ≡ decimal m ++ l₂) × Tight m l₂ → Short n × (l₂ ≡ number n ++ l₃) × Tight n l₃ → ShortZ z × (l₃ ≡ amount z ++ l₄) × Free z l₄ → Takes triple ShortTriple Free l (Some (m, n, to_z w64 (of_z w64 z))) l₄
-triple_whole m n z l l₁ l₂ l₃ l₄ e₁ (hm, e₂, _) (hn, e₃, _) (hz, e₄, _) =
-    let P : ℤ → Type 0 = λ y. ShortTriple (m, n, y) × (l ≡ triple (m, n, y) ++ l₄) × Unit {0} in
-    subst P (sym (back z hz)) ((hm, hn, hz), e₁ ∙ ap (λ x. 40 ∷ x) (e₂ ∙ ap (λ x. decimal m ++ x) (e₃ ∙ ap (λ x. number n ++ x) e₄)) ∙ sym (triple_text m n z l₄), tt)

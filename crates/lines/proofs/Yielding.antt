@@ -1,5 +1,5 @@
 -- What a cursor yields. Assumes nothing.
-use Rattle.std.proofs.Common.{◌≡◌, ℕ, ◌<◌, List, [], ◌∷◌, ◌++◌, length, drop, Some, None, sym, refl, ap, ◌∙◌, subst, arith, length-append, length-drop}
+use Rattle.std.proofs.Common.{◌≡◌, ℕ, List, [], ◌∷◌, ◌++◌, drop, Some, None, sym, refl, ap, ◌∙◌, subst, arith}
 use Rattle.std.specs.Iterator.{AlwaysYields}
 use Rattle.std.proofs.lemmas.Iterator.{YieldsList}
 use Rattle.lines.specs.declared.form.Items.{Items}
@@ -26,10 +26,6 @@ module _ {X : Type 0} {text : X → List ℕ} {ok : X → Type 0} {tight : X →
           let p = laws.first x xs c.text.now h.short.0 h.written in
           let o = laws.told.once x y p.0 d.text.now h.short.0 good p.2 close (sym p.1 ∙ sym e ∙ f) in
           record { others = xs; order = ap (λ q. q ∷ xs) o.0; held = record { few = omega (arith, h.few); short = h.short.1; written = subst (laid xs) o.1 p.3 } }
-
-  -- what is left is shorter
-  pub less_left : (t l rest : List ℕ) (y : X) → l ≡ drop 1 t → ok y × (l ≡ text y ++ rest) × tight y rest → length rest < length t
-  less_left t l rest y e (good, f, close) = omega (arith, laws.long y good, ap length e, length-drop 1 t, ap length f, length-append (text y) rest)
 
 -- a loop over a cursor that holds xs is given xs and nothing else
 pub held_yields : {X : Type 0} {ok : X → Type 0} {laid : List X → List ℕ → Type 0} {c : Items X} (xs : List X) → Holds ok laid xs c → YieldsList (Gives ok laid) (λ x. x) c xs

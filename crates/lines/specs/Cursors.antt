@@ -5,7 +5,7 @@ use Rattle.lines.specs.Forms.{Short, ShortPair, ShortTriple, pair, triple}
 use Rattle.lines.specs.Items.{Row, RowOrList}
 use Rattle.lines.specs.declared.form.Items.{Items}
 
--- the cursor c still holds the items xs
+-- the cursor c still holds the items xs, no more than a line has room for: each is short enough, and c's text has them in order
 pub record Holds {X : Type 0} (ok : X → Type 0) (laid : List X → List ℕ → Type 0) (xs : List X) (c : Items X) : Type 0 where
   pub few : length xs ≤ 4096
   pub short : AllByRecursion ok xs

@@ -2,7 +2,7 @@ use Rattle.lines.specs.Laws.{signed_told}
 use Rattle.std.proofs.Common.{arith}
 use Rattle.lines.specs.Texts.{Open, Byte}
 use Rattle.lines.proofs.Halting.{Follows, byte_none, byte_some, byte_follows, piece_none, piece_some, open_follows}
-use Rattle.lines.proofs.Pieces.{as_amount, signed_live, amount_whole}
+use Rattle.lines.proofs.Pieces.{as_amount, signed_live}
 use Rattle.lines.proofs.reader.Reader.amount.Goals as goal
 
 -- the bracket may stand after a number
@@ -20,6 +20,3 @@ returns-in_err-pass c =
     rw c.from_residual-in_err-pass.ensures
     (as_amount Open (byte_some c.in_ok-blank.ensures (piece_some signed_told (λ _. close) _ c.in_ok-amount.ensures
     (byte_none open_follows.live c.in_err-pass.ensures))))
-
-pub returns : goal.returns
-returns c = amount_whole _ _ _ _ _ c.in_ok-blank.ensures c.in_ok-amount.ensures c.in_ok-pass.ensures

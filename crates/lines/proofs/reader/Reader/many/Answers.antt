@@ -1,14 +1,8 @@
 use Rattle.std.proofs.Common.{ap, arith}
 use Rattle.lines.specs.Texts.{ahead}
 use Rattle.lines.proofs.Numerals.{stepped}
-use Rattle.lines.proofs.Listing.{goes_none, goes_more, at_item, at_neither, at_bracket, shorter}
+use Rattle.lines.proofs.Listing.{goes_more, at_item, at_neither, at_bracket}
 use Rattle.lines.proofs.reader.Reader.many.Goals as goal
-
-pub loop-self-init : goal.loop-self-init
-loop-self-init g c = goes_none _ _
-
-pub loop-self-smaller : goal.loop-self-smaller
-loop-self-smaller g c = let laws = g.met.T.LineItem.lawful in shorter laws.told laws.some c.args.after.now _ _ c.loop-self.invariant _ c.skip.new.self.rest.now _ (stepped _ _ 32 _ c.in_ok-peek.ensures c.in-32.is c.skip.ensures) c.in_ok-read-in-32.ensures.1
 
 pub loop-self-preserved : goal.loop-self-preserved
 loop-self-preserved g c = let laws = g.met.T.LineItem.lawful in goes_more laws.told laws.some c.args.after.now _ _ c.loop-self.invariant _ c.skip.new.self.rest.now _ (stepped _ _ 32 _ c.in_ok-peek.ensures c.in-32.is c.skip.ensures) c.in_ok-read-in-32.ensures

@@ -1,6 +1,4 @@
 use Rattle.lines.specs.Laws.{item_told}
-use Rattle.std.proofs.Common.{◌++◌, ap, ◌∙◌}
-use Rattle.lines.specs.Forms.{number}
 use Rattle.lines.proofs.Halting.{piece_none, piece_some}
 use Rattle.lines.proofs.Bodies.{ending}
 use Rattle.lines.proofs.reader.Reader.one.Goals as goal
@@ -10,6 +8,3 @@ returns-in_err-n c = rw c.from_residual.ensures (piece_none item_told (λ _. end
 
 pub returns-in_err-finish : goal.returns-in_err-finish
 returns-in_err-finish c = rw c.from_residual-in_err-finish.ensures (piece_some item_told (λ _. ending) _ c.in_ok-n.ensures c.in_err-finish.ensures)
-
-pub returns : goal.returns
-returns c = let h = c.in_ok-n.ensures in (h.0, h.1 ∙ ap (λ t. number c.in_ok-n.n ++ t) c.in_ok-finish.ensures)

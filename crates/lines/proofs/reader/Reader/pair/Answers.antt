@@ -1,7 +1,7 @@
 use Rattle.lines.specs.Laws.{number_told}
 use Rattle.lines.specs.Texts.{Open}
 use Rattle.lines.proofs.Halting.{byte_none, byte_some, piece_none, piece_some, open_follows}
-use Rattle.lines.proofs.Pieces.{as_pair, number_halts, number_live, amount_follows, pair_whole}
+use Rattle.lines.proofs.Pieces.{as_pair, number_halts, number_live, amount_follows}
 use Rattle.lines.proofs.reader.Reader.pair.Goals as goal
 
 pub returns-in_err-pass : goal.returns-in_err-pass
@@ -15,6 +15,3 @@ returns-in_err-multiplier c =
     rw c.from_residual-in_err-multiplier.ensures
     (as_pair Open (byte_some c.in_ok-pass.ensures (piece_some number_told (λ _. amount_follows Open open_follows.live) _ c.in_ok-rule.ensures
     c.in_err-multiplier.ensures)))
-
-pub returns : goal.returns
-returns c = pair_whole _ _ _ _ _ _ c.in_ok-pass.ensures c.in_ok-rule.ensures c.in_ok-multiplier.ensures

@@ -1,4 +1,3 @@
-use Rattle.std.proofs.Common.{◌∷◌, sym, ap, ◌∙◌}
 use Rattle.lines.proofs.Halting.{byte_none, byte_some}
 use Rattle.lines.proofs.Listing.{bracket_live, listed_live}
 use Rattle.lines.proofs.reader.Reader.routes.Goals as goal
@@ -11,6 +10,3 @@ returns-in_err-pass c = rw c.from_residual-in_err-pass.ensures (byte_some c.in_o
 
 pub returns-in_err-list : goal.returns-in_err-list
 returns-in_err-list c = rw c.from_residual-in_err-list.ensures (byte_some c.in_ok-blank.ensures (byte_some c.in_ok-pass.ensures c.in_err-list.ensures))
-
-pub returns : goal.returns
-returns c = (_, c.in_ok-list.ensures, c.new-routes.ensures ∙ c.in_ok-pass.ensures, c.in_ok-blank.ensures ∙ ap (λ t. 32 ∷ t) (sym c.new-routes.ensures))

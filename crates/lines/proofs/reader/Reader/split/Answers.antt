@@ -1,6 +1,4 @@
 use Rattle.lines.specs.Laws.{item_told}
-use Rattle.std.proofs.Common.{◌++◌, ap, ◌∙◌}
-use Rattle.lines.specs.Forms.{number}
 use Rattle.lines.proofs.Halting.{piece_none, piece_some}
 use Rattle.lines.proofs.Listing.{routes_follows}
 use Rattle.lines.proofs.reader.Reader.split.Goals as goal
@@ -10,9 +8,3 @@ returns-in_err-place c = rw c.from_residual.ensures (piece_none item_told (λ _.
 
 pub returns-in_err-routes : goal.returns-in_err-routes
 returns-in_err-routes c = rw c.from_residual-in_err-routes.ensures (piece_some item_told (λ _. routes_follows) _ c.in_ok-place.ensures c.in_err-routes.ensures)
-
-pub returns : goal.returns
-returns c =
-    let h = c.in_ok-place.ensures in
-    let k = c.in_ok-routes.ensures in
-    (h.0, (k.0, k.1, k.2, h.1 ∙ ap (λ t. number c.in_ok-place.place ++ t) k.3))

@@ -2,7 +2,7 @@ use Rattle.lines.specs.Laws.{number_told, item_told}
 use Rattle.lines.specs.Texts.{Open, Item, Piece}
 use Rattle.lines.specs.Forms.{amount, ShortZ}
 use Rattle.lines.proofs.Halting.{Follows, byte_none, byte_some, piece_none, piece_some, open_follows}
-use Rattle.lines.proofs.Pieces.{as_triple, number_halts, number_live, item_follows, amount_follows, triple_whole}
+use Rattle.lines.proofs.Pieces.{as_triple, number_halts, number_live, item_follows, amount_follows}
 use Rattle.lines.proofs.reader.Reader.triple.Goals as goal
 
 -- what follows the route
@@ -30,6 +30,3 @@ returns-in_err-weight c =
     rw c.from_residual-in_err-weight.ensures
     (as_triple Open (byte_some c.in_ok-pass.ensures (piece_some number_told (λ _. route) _ c.in_ok-place.ensures
     (piece_some item_told (λ _. weight) _ c.in_ok-route.ensures c.in_err-weight.ensures))))
-
-pub returns : goal.returns
-returns c = triple_whole _ _ _ _ _ _ _ _ c.in_ok-pass.ensures c.in_ok-place.ensures c.in_ok-route.ensures c.in_ok-weight.ensures

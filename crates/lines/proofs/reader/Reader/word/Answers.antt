@@ -1,22 +1,12 @@
-use Rattle.std.proofs.Common.{◌≡◌, ◌<◌, ◌++◌, length, get_or, take, drop, sym, refl, ap, ◌∙◌, subst, arith}
+use Rattle.std.proofs.Common.{◌≡◌, ◌<◌, length, drop, refl, subst, arith}
 use Rattle.std.proofs.lemmas.List.{take_rest}
-use Rattle.lines.specs.declared.word.Word.TheVariants.{Casebook}
 use Rattle.lines.specs.Texts.{Shared}
-use Rattle.lines.specs.Words.{spelt, words}
 use Rattle.lines.proofs.Halting.{halt_at}
-use Rattle.lines.proofs.Wording.{AnyWord, Tried, tried_none, tried_more, tried_all, found}
+use Rattle.lines.proofs.Wording.{AnyWord, Tried, tried_none, tried_more, tried_all}
 use Rattle.lines.proofs.reader.Reader.word.Goals as goal
 
 pub loop-word-init : goal.loop-word-init
 loop-word-init c = (refl, tried_none _)
-
-pub returns-then-n-spelling : goal.returns-then-n-spelling
-returns-then-n-spelling c =
-    let l = c.loop-word.self.rest.now in
-    let n = c.common-n.result in
-    let p = spelt (get_or words c.loop-word.word-index Casebook) in
-    let e = c.spelling-spelling.ensures in
-    (tt, c.loop-word.invariant.0 ∙ found l p n (c.common-n.ensures.same ∙ ap (take n) e) (c.if-n-spelling.true ∙ ap length e) ∙ ap (λ t. p ++ t) (sym (take_rest l n)), tt)
 
 pub loop-word-preserved : goal.loop-word-preserved
 loop-word-preserved c =
