@@ -1,52 +1,45 @@
 //! Output in fixed memory.
-ghost use Rattle.std.specs.Prelude.{◌≡◌, ◌≤◌, length};
+ghost use Rattle.std.specs.Prelude.{◌≡◌, [], OnOk};
 
+use arrayvec::ArrayVec;
 use std::io;
 use std::io::Write;
-
-const ROOM: usize = 8192;
 
 /// What was written and not handed on yet, and the writer to which it goes when there is no more room, or at a flush.
 #[derive(Drop)]
 pub struct Gathered<W> {
     to: W,
-    bytes: [u8; ROOM],
-    filled: usize,
-    ghost long: { length bytes ≡ 8192 },
-    ghost within: { filled ≤ 8192 },
+    bytes: ArrayVec<u8, 8192>,
 }
 
 impl<W: Write> Gathered<W> {
     /// Nothing written yet.
-    pub fn new(to: W) -> Gathered<W> {
+    pub fn new(to: W) -> Gathered<W>
+        ensures to { result.to ≡ to }
+        ensures bytes { result.bytes.items ≡ [] }
+    {
         Gathered {
             to,
-            bytes: [0; ROOM],
-            filled: 0,
+            bytes: ArrayVec::new(),
         }
     }
 
     /// Hands on what was gathered.
-    fn hand_on(&mut self) -> io::Result<()> {
-        let filled = self.filled;
-        self.to.write_all(&self.bytes[..filled])?;
-        self.filled = 0;
+    fn hand_on(&mut self) -> io::Result<()>
+        ensures { OnOk result (self.new.bytes.items ≡ []) }
+    {
+        self.to.write_all(&self.bytes)?;
+        self.bytes.clear();
         Ok(())
     }
 }
 
 impl<W: Write> Write for Gathered<W> {
     fn write(&mut self, buf: &[u8]) -> io::Result<usize> {
-        if self.filled >= ROOM {
+        if self.bytes.is_full() {
             self.hand_on()?;
         }
-        let at = self.filled;
-        let n = buf.len().min(ROOM - at);
-        for i in 0..n {
-            self.bytes[at + i] = buf[i];
-        }
-        self.filled = at + n;
-        Ok(n)
+        self.bytes.write(buf)
     }
 
     fn flush(&mut self) -> io::Result<()> {

@@ -1,7 +1,10 @@
 -- What an accepted line is told. Assumes nothing.
-use Rattle.std.specs.Prelude.{ℕ, Bool, true, false, List, take, ℤ, Some, None, Ok, Err, Option, Result}
+use Rattle.std.specs.Prelude.{ℕ, Bool, true, false, List, take, ℤ, Some, None, Ok, Err, codes, decimal, Option, Result}
+use Rattle.std.specs.Fmt.{signed_decimal}
 use Rattle.terms.specs.declared.refusal.Refusal.{Refusal}
 use Rattle.terms.specs.declared.verdict.Verdict.{Verdict}
+use Rattle.terms.specs.Verdicts.{word_of}
+use Rattle.lines.specs.Forms.{spaced}
 use Rattle.dossiers.specs.declared.answer.Answer.{Answer}
 use Rattle.dossiers.specs.declared.answer.Answer.TheVariants as answer
 
@@ -13,6 +16,14 @@ pub data Told : Type 0 where
   NoPlan : Told
   Plan : List ℕ → Told
   Word : Verdict → Told
+
+-- how it is written: the arcs of a plan with blanks between
+abbrev pub written : Told → List ℕ
+written (Count n) = decimal n
+written (Amount z) = signed_decimal z
+written NoPlan = codes "none"
+written (Plan arcs) = spaced arcs
+written (Word v) = word_of v
 
 -- an answer as the library gives it: a plan is in the first places of an array
 abbrev pub told_by : Answer → Told

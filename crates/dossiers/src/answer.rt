@@ -1,6 +1,8 @@
 //! What a line is answered.
 ghost use Rattle.std.specs.Prelude.{◌≡◌, ◌≤◌, take};
 
+mod shown;
+
 use terms::verdict::Verdict;
 
 /// The arcs of a plan. An answer is copied, and a vector of the kit is not: so they stand in the first places of an array.
