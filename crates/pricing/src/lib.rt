@@ -9,10 +9,10 @@ ghost use Rattle.through.specs.Pricings.{Priceable, priceable_prop, counting};
 
 mod active;
 pub mod fair;
-pub mod price;
-pub mod prices;
+mod price;
+mod prices;
 mod sift;
-pub mod strike;
+mod strike;
 mod sums;
 pub mod trim;
 

@@ -34,7 +34,8 @@ impl<'a, B: Bank> Pricing<'a, B> {
             standing,
             prices: &prices,
         };
-        plus(least_sum(&priced), self.limits_share())
+        let sum = least_sum(&priced);
+        plus(sum, self.limits_share())
     }
 
     /// The least priced amount over the standing plans, if any stands; writes the first plan with that amount into the
@@ -51,6 +52,7 @@ impl<'a, B: Bank> Pricing<'a, B> {
             standing,
             prices: &prices,
         };
-        plus(priced.least_plan(plan), self.limits_share())
+        let sum = priced.least_plan(plan);
+        plus(sum, self.limits_share())
     }
 }

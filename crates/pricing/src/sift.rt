@@ -48,7 +48,8 @@ pub fn sift<T: Tally, F: Fn(i64, T::Amount, T::Amount) -> bool>(
     for (i, arc) in chart.arcs().iter().enumerate() {
         let front = fronts[entry(usize::from(arc.place), arc.start)];
         let back = backs[entry(usize::from(arc.place) + 1, arc.end)];
-        if standing[i] && !stays(prices[i], front, back) {
+        let stood = standing[i];
+        if stood && !stays(prices[i], front, back) {
             standing[i] = false;
             gone += 1;
         }
