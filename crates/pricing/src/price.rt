@@ -13,7 +13,7 @@ use rules::bank::Bank;
 use sweeps::priced::Priced;
 use tallies::kinds::Least;
 
-/// The least sum of prices over the standing plans, if any stands.
+/// The least sum of prices over the standing plans, if any stands. `least_plan` would want a buffer for the plan.
 fn least_sum(priced: &Priced) -> Option<i64>
     ensures { result ≡ amount_in (price_sum (price_at priced.now.prices.now)) (cheapest (price_sum (price_at priced.now.prices.now)) (standing_on priced.now.chart.now priced.now.standing.now)) }
 {
