@@ -1,9 +1,9 @@
 //! The sweep over the levels of a chart, one for every kind of tally and for both directions.
 ghost use Rattle.std.specs.Prelude.{◌≡◌, ℕ, ◌+◌, ◌<◌, ◌≤◌, length, slice_index_or, unsigned_abs};
-ghost use Rattle.charts.specs.Drafts.{places_of, arcs_of};
+ghost use Rattle.charts.specs.Drafts.{places_of};
 ghost use Rattle.tallies.specs.Laws.{wide};
-ghost use Rattle.ways.specs.Amounts.{marked, price_at, Forward as ForwardTable, Backward as BackwardTable};
-ghost use Rattle.ways.specs.Ways.{relaxed, Filled};
+ghost use Rattle.ways.specs.Ways.{relaxed};
+ghost use Rattle.sweeps.specs.Tables.{FilledTo, ForwardTable, BackwardTable};
 
 use super::priced::Priced;
 use tallies::heading::{Backward, Heading, Onward};
@@ -22,7 +22,7 @@ fn fill<X: Copy>(out: &mut [X], value: X)
 fn relax<T: Tally>(from: usize, to: usize, price: i64, out: &mut [T::Amount])
     requires from_within { from < length out.old }
     requires to_within { to < length out.old }
-    requires amount_small { T.Tally.size (slice_index_or out.old from T.Tally.nothing) < wide }
+    requires amount_small { T.Tally.size (slice_index_or out.old from T.Tally.NO_PLAN) < wide }
     requires price_small { unsigned_abs price < wide }
     ensures { out.new ≡ relaxed T.Tally out.old from to price }
 {
@@ -36,8 +36,8 @@ impl Priced<'_> {
     fn cross<T: Tally, H: Heading>(&self, step: usize, out: &mut [T::Amount])
         requires long { length out.old ≡ 1056 }
         requires more { step < places_of self.now.chart.now }
-        requires filled { Filled T.Tally H.Heading (places_of self.now.chart.now) (arcs_of self.now.chart.now) (marked self.now.standing.now) (price_at self.now.prices.now) step out.old }
-        ensures { Filled T.Tally H.Heading (places_of self.now.chart.now) (arcs_of self.now.chart.now) (marked self.now.standing.now) (price_at self.now.prices.now) (step + 1) out.new }
+        requires filled { FilledTo T.Tally self.now H.Heading step out.old }
+        ensures { FilledTo T.Tally self.now H.Heading (step + 1) out.new }
     {
         let places = usize::from(self.chart.places());
         let place = H::place_at(places, step);
@@ -58,11 +58,11 @@ impl Priced<'_> {
     /// A whole sweep: writes into the table, for each number of steps and each node, the joining over all ways.
     fn sweep<T: Tally, H: Heading>(&self, out: &mut [T::Amount])
         requires { length out.old ≡ 1056 }
-        ensures { Filled T.Tally H.Heading (places_of self.now.chart.now) (arcs_of self.now.chart.now) (marked self.now.standing.now) (price_at self.now.prices.now) (places_of self.now.chart.now) out.new }
+        ensures { FilledTo T.Tally self.now H.Heading (places_of self.now.chart.now) out.new }
     {
         let places = usize::from(self.chart.places());
-        fill(out, T::no_plan());
-        out[32 * H::row_at(places, 0)] = T::empty_plan();
+        fill(out, T::NO_PLAN);
+        out[32 * H::row_at(places, 0)] = T::EMPTY_PLAN;
         for step in 0..places {
             self.cross::<T, H>(step, out);
         }
@@ -71,7 +71,7 @@ impl Priced<'_> {
     /// Writes, for each node, the joining over all standing partial plans from the root to it.
     pub fn forward<T: Tally>(&self, out: &mut [T::Amount])
         requires { length out.old ≡ 1056 }
-        ensures { ForwardTable T.Tally (places_of self.now.chart.now) (arcs_of self.now.chart.now) (marked self.now.standing.now) (price_at self.now.prices.now) out.new }
+        ensures { ForwardTable T.Tally self.now out.new }
     {
         self.sweep::<T, Onward>(out);
     }
@@ -79,7 +79,7 @@ impl Priced<'_> {
     /// Writes, for each node, the joining over all standing partial plans from it to the end.
     pub fn backward<T: Tally>(&self, out: &mut [T::Amount])
         requires { length out.old ≡ 1056 }
-        ensures { BackwardTable T.Tally (places_of self.now.chart.now) (arcs_of self.now.chart.now) (marked self.now.standing.now) (price_at self.now.prices.now) out.new }
+        ensures { BackwardTable T.Tally self.now out.new }
     {
         self.sweep::<T, Backward>(out);
     }

@@ -2,7 +2,7 @@
 ghost use Rattle.std.specs.Prelude.{◌≡◌, ℕ, suc, ◌-◌, ◌<◌, ◌≤◌};
 ghost use Rattle.terms.specs.declared.arc.Arc.{Arc as GhostArc};
 ghost use Rattle.tallies.specs.Headings.{HeadingLaws};
-ghost use Rattle.tallies.specs.Sorts.{onward_lawful, backward_lawful};
+ghost use Rattle.std.proofs.Common.{rules};
 
 use terms::arc::Arc;
 
@@ -35,6 +35,7 @@ pub trait Heading {
         requires { (step ≤ places) × (places ≤ 32) }
         ensures { result ≡ row places step };
 
+    // What every direction owes.
     ghost lawful: { HeadingLaws near far place row };
 }
 
@@ -50,7 +51,7 @@ impl Heading for Onward {
 
     ghost row = { λ n k. k };
 
-    ghost lawful = { onward_lawful };
+    ghost lawful = { Prim.search rules };
 
     fn near_end(arc: Arc) -> u8 {
         arc.start
@@ -81,7 +82,7 @@ impl Heading for Backward {
 
     ghost row = { λ n k. n - k };
 
-    ghost lawful = { backward_lawful };
+    ghost lawful = { Prim.search rules };
 
     fn near_end(arc: Arc) -> u8 {
         arc.end

@@ -1,7 +1,7 @@
 //! The kinds of tally: least, the smaller amount, and reach, whether there is a plan.
 ghost use Rattle.std.specs.Prelude.{◌≡◌, ℕ, true, false, ◌||◌, ℤ, pos, Some, None};
 ghost use Rattle.tallies.specs.Kinds.{least_join, least_extend, least_size};
-ghost use Rattle.tallies.specs.Sorts.{least_lawful, reach_lawful};
+ghost use Rattle.tallies.specs.Sorts.{least_lawful, reach_lawful, least_chooses, reach_chooses};
 
 use super::tally::{Choosing, Tally};
 
@@ -11,9 +11,13 @@ pub struct Reach;
 impl Tally for Reach {
     type Amount = bool;
 
-    ghost nothing = { false };
+    const NO_PLAN: bool = false;
 
-    ghost start = { true };
+    ghost NO_PLAN = { false };
+
+    const EMPTY_PLAN: bool = true;
+
+    ghost EMPTY_PLAN = { true };
 
     ghost joins = { λ a b. a || b };
 
@@ -23,16 +27,8 @@ impl Tally for Reach {
 
     ghost lawful = { reach_lawful };
 
-    fn no_plan() -> bool {
-        false
-    }
-
-    fn empty_plan() -> bool {
-        true
-    }
-
     fn join(a: bool, b: bool) -> bool {
-        a | b
+        a || b
     }
 
     fn extend(a: bool, _price: i64) -> bool {
@@ -41,8 +37,10 @@ impl Tally for Reach {
 }
 
 impl Choosing for Reach {
+    ghost chooses = { reach_chooses };
+
     fn first(a: bool, b: bool) -> bool {
-        a | !b
+        a || !b
     }
 }
 
@@ -52,9 +50,13 @@ pub struct Least;
 impl Tally for Least {
     type Amount = Option<i64>;
 
-    ghost nothing = { None };
+    const NO_PLAN: Option<i64> = None;
 
-    ghost start = { Some (pos 0) };
+    ghost NO_PLAN = { None };
+
+    const EMPTY_PLAN: Option<i64> = Some(0);
+
+    ghost EMPTY_PLAN = { Some (pos 0) };
 
     ghost joins = { least_join };
 
@@ -64,36 +66,25 @@ impl Tally for Least {
 
     ghost lawful = { least_lawful };
 
-    fn no_plan() -> Option<i64> {
-        None
-    }
-
-    fn empty_plan() -> Option<i64> {
-        Some(0)
-    }
-
     fn join(a: Option<i64>, b: Option<i64>) -> Option<i64> {
         match (a, b) {
-            (None, b) => b,
-            (Some(x), None) => Some(x),
-            (Some(x), Some(y)) => { if y < x { Some(y) } else { Some(x) } }
+            (Some(x), Some(y)) => Some(x.min(y)),
+            _ => a.or(b),
         }
     }
 
     fn extend(a: Option<i64>, price: i64) -> Option<i64> {
-        match a {
-            None => None,
-            Some(x) => Some(x + price),
-        }
+        a.map(|x| x + price)
     }
 }
 
 impl Choosing for Least {
+    ghost chooses = { least_chooses };
+
     fn first(a: Option<i64>, b: Option<i64>) -> bool {
         match (a, b) {
-            (None, None) => true,
+            (_, None) => true,
             (None, Some(_)) => false,
-            (Some(_), None) => true,
             (Some(x), Some(y)) => x <= y,
         }
     }

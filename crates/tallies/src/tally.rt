@@ -1,5 +1,5 @@
 //! What a kind of tally is.
-ghost use Rattle.std.specs.Prelude.{◌≡◌, ℕ, ◌<◌, true, false, ◌⊎◌, ℤ, unsigned_abs};
+ghost use Rattle.std.specs.Prelude.{◌≡◌, ℕ, ◌<◌, ◌⊎◌, ◌↔◌, ℤ, IsTrue, unsigned_abs};
 ghost use Rattle.tallies.specs.Laws.{TallyLaws, wide};
 
 /// A kind of tally: its sort of amount, the amounts of "no plan" and of the empty plan, the joining of two
@@ -7,23 +7,21 @@ ghost use Rattle.tallies.specs.Laws.{TallyLaws, wide};
 pub trait Tally {
     type Amount: Copy;
 
-    ghost nothing: { Self.Amount };
+    /// The amount of "no plan".
+    const NO_PLAN: Self::Amount;
 
-    ghost start: { Self.Amount };
+    ghost NO_PLAN: { Self.Amount };
+
+    /// The amount of the empty plan.
+    const EMPTY_PLAN: Self::Amount;
+
+    ghost EMPTY_PLAN: { Self.Amount };
 
     ghost joins: { Self.Amount → Self.Amount → Self.Amount };
 
     ghost extends: { Self.Amount → ℤ → Self.Amount };
 
     ghost size: { Self.Amount → ℕ };
-
-    /// The amount of "no plan".
-    fn no_plan() -> Self::Amount
-        ensures { result ≡ nothing };
-
-    /// The amount of the empty plan.
-    fn empty_plan() -> Self::Amount
-        ensures { result ≡ start };
 
     /// The joining of two amounts.
     fn join(a: Self::Amount, b: Self::Amount) -> Self::Amount
@@ -34,15 +32,16 @@ pub trait Tally {
         requires { (size a < wide) × (unsigned_abs price < wide) }
         ensures { result ≡ extends a price };
 
-    ghost lawful: { TallyLaws nothing start joins extends size };
+    // What every kind owes.
+    ghost lawful: { TallyLaws NO_PLAN EMPTY_PLAN joins extends size };
 }
 
 /// A tally whose joining is always one of the two.
 pub trait Choosing: Tally {
     /// Whether the joining of two amounts is the first; if not, it is the second.
     fn first(a: Self::Amount, b: Self::Amount) -> bool
-        ensures chosen { result ≡ true → Self.joins a b ≡ a }
-        ensures other { result ≡ false → Self.joins a b ≡ b }
-        ensures told { Self.joins a b ≡ a → result ≡ true }
-        ensures chooses { (x y : Self.Amount) → (Self.joins x y ≡ x) ⊎ (Self.joins x y ≡ y) };
+        ensures { IsTrue result ↔ (Self.joins a b ≡ a) };
+
+    // The joining is one of the two, whatever they are.
+    ghost chooses: { (x y : Self.Amount) → (Self.joins x y ≡ x) ⊎ (Self.joins x y ≡ y) };
 }

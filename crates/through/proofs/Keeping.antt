@@ -181,7 +181,7 @@ module _ (n : ℕ) (arcs : List Arc) (sealed : Sealed n arcs) (a : ℕ) (l : a <
         let few = sealed.few in
         let high = x.placed.1 in
         let below = x.noded.0 in
-        get_or_read table q _ (omega arith) read t.nothing ∙ ap (λ m. get_or table m t.nothing) at ∙ filled (arc_at arcs a).place (arc_at arcs a).start start_node
+        get_or_read table q _ (omega arith) read t.NO_PLAN ∙ ap (λ m. get_or table m t.NO_PLAN) at ∙ filled (arc_at arcs a).place (arc_at arcs a).start start_node
 
     read_behind : Backward t n arcs s price table → q ≡ entry (suc (arc_at arcs a).place) (arc_at arcs a).end → x ≡ amount_behind t n arcs s price a
     read_behind filled at = read_table t laws n arcs sealed s price small table (suc (arc_at arcs a).place) (arc_at arcs a).end q x filled long final_node at read

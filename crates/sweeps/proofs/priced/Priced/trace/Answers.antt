@@ -15,7 +15,7 @@ returns-in_default g c =
     let t = g.T.Tally in
     let n = places_of c.args.self.now.chart.now in
     let arcs = arcs_of c.args.self.now.chart.now in
-    let there = attained t g.met.T.Tally.lawful n arcs (sealed c.args.self.now.chart.now) (marked c.args.self.now.standing.now) (price_at c.args.self.now.prices.now) c.args.self.now.fit.small c.first.ensures.chooses (c.loop-j.j + 1) c.loop-j.node c.loop-j.invariant.2 (let f = c.from-j-end.ensures in let d = c.places.ensures.value in omega arith) c.loop-j.invariant.1 in
+    let there = attained t g.met.T.Tally.lawful n arcs (sealed c.args.self.now.chart.now) (marked c.args.self.now.standing.now) (price_at c.args.self.now.prices.now) c.args.self.now.fit.small g.met.T.Choosing.chooses (c.loop-j.j + 1) c.loop-j.node c.loop-j.invariant.2 (let f = c.from-j-end.ensures in let d = c.places.ensures.value in omega arith) c.loop-j.invariant.1 in
     absurd (c.in_default.ensures there.0 there.1.0 there.1.1)
 
 pub loop-j-preserved : goal.loop-j-preserved
@@ -44,7 +44,7 @@ loop-j-preserved g c =
     let picked = c.in-Some.ensures in
     let goes = (and_parts (s i) (next arcs k node i) picked.1.0.0).1 in (
       subst₂ (λ m v. Completes t n arcs s price (take (j + 1) (set plan j i)) m v) up to (completes_more t laws n arcs all s price small plan j i k node l picked.1 c.loop-j.invariant.0),
-      subst₂ (λ m v. backward_amount t n arcs s price m v ≡ t.nothing → ⊥) up to (amount_left t laws n arcs all s price small k node i picked.1.0 c.loop-j.invariant.1),
+      subst₂ (λ m v. backward_amount t n arcs s price m v ≡ t.NO_PLAN → ⊥) up to (amount_left t laws n arcs all s price small k node i picked.1.0 c.loop-j.invariant.1),
       subst₂ (λ m v. Node n m v) up to (end_node n arcs all k node i c.loop-j.invariant.2.low goes),
       drop-set-lt n plan j i more ∙ c.loop-j.invariant.3,
     )
@@ -68,9 +68,8 @@ returns g c =
     let ended : j ≡ n = omega arith in
     let traced = subst (λ m. Traced t n arcs s price 1 0 (take m plan)) ended (completes_all t laws n arcs all s price small plan j (j + 1) c.loop-j.node (omega arith) c.loop-j.invariant.0) in (
       (λ none.
-          let np = c.no_plan.ensures in
           let ne = laws.neutral x in
-          both_ways c.first.result c.if-first.false (c.first.ensures.told (cc))),
+          both_ways c.first.result c.if-first.false (c.first.ensures.1 (cc))),
       traced,
       traced_attains t laws n arcs all s price small (take n plan) traced,
       c.loop-j.invariant.3,
