@@ -13,7 +13,7 @@ use rules::bank::Bank;
 use sweeps::priced::Priced;
 use tallies::kinds::Least;
 
-/// The least sum of prices over the standing plans, if any stands.
+/// The least sum of prices over the standing plans, if any stands. `least_plan` would want a buffer for the plan.
 fn least_sum(priced: &Priced) -> Option<i64>
     ensures { result ≡ amount_in (price_sum (price_at priced.now.prices.now)) (cheapest (price_sum (price_at priced.now.prices.now)) (standing_on priced.now.chart.now priced.now.standing.now)) }
 {
@@ -34,7 +34,8 @@ impl<'a, B: Bank> Pricing<'a, B> {
             standing,
             prices: &prices,
         };
-        plus(least_sum(&priced), self.limits_share())
+        let sum = least_sum(&priced);
+        plus(sum, self.limits_share())
     }
 
     /// The least priced amount over the standing plans, if any stands; writes the first plan with that amount into the
@@ -51,6 +52,7 @@ impl<'a, B: Bank> Pricing<'a, B> {
             standing,
             prices: &prices,
         };
-        plus(priced.least_plan(plan), self.limits_share())
+        let sum = priced.least_plan(plan);
+        plus(sum, self.limits_share())
     }
 }

@@ -21,8 +21,9 @@ fn entry(level: usize, node: u8) -> usize
     32 * (level - 1) + usize::from(node)
 }
 
-/// Takes away the mark of each arc that fails a test of its price, the amount before it and the amount behind it. Answers
-/// how many. The two tables are room for the sweeps.
+/// Takes away the mark of each arc that fails a test of its price, the amount before it and the amount behind it, and
+/// answers how many. So whatever set of arcs the test tells of, its arcs keep their marks and no others do. The two tables
+/// are lent to the sweeps.
 pub fn sift<T: Tally, F: Fn(i64, T::Amount, T::Amount) -> bool>(
     chart: &Chart,
     prices: &[i64],
@@ -48,7 +49,8 @@ pub fn sift<T: Tally, F: Fn(i64, T::Amount, T::Amount) -> bool>(
     for (i, arc) in chart.arcs().iter().enumerate() {
         let front = fronts[entry(usize::from(arc.place), arc.start)];
         let back = backs[entry(usize::from(arc.place) + 1, arc.end)];
-        if standing[i] && !stays(prices[i], front, back) {
+        let stood = standing[i];
+        if stood && !stays(prices[i], front, back) {
             standing[i] = false;
             gone += 1;
         }

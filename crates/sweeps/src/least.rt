@@ -3,12 +3,12 @@ ghost use Rattle.std.specs.Prelude.{◌≡◌, ℕ, ◌<◌, ◌≤◌, Bool, le
 ghost use Rattle.plans.specs.Arcs.{arc_at};
 ghost use Rattle.plans.specs.Plans.{cost};
 ghost use Rattle.plans.specs.Cases.{standing as standing_plans};
-ghost use Rattle.plans.specs.Firsts.{foremost, cheapest, amount_in, written, is_there};
+ghost use Rattle.plans.specs.Firsts.{foremost, amount_in, written, is_there};
 ghost use Rattle.charts.specs.Drafts.{places_of, arcs_of};
-ghost use Rattle.ways.specs.Amounts.{marked, price_at, backward_amount};
+ghost use Rattle.ways.specs.Amounts.{marked, price_at};
 ghost use Rattle.ways.specs.Minutes.{cheapest_plan, on_minutes};
 ghost use Rattle.ways.specs.Sums.{price_sum};
-ghost use Rattle.ways.specs.Traces.{Outcome};
+ghost use Rattle.sweeps.specs.Tables.{over_all, TracedInto, least_of};
 
 use super::priced::Priced;
 use charts::chart::Chart;
@@ -22,8 +22,8 @@ impl Priced<'_> {
     fn attain<T: Choosing>(&self, table: &mut [T::Amount], plan: &mut [usize]) -> T::Amount
         requires long { length table.old ≡ 1056 }
         requires room { places_of self.now.chart.now ≤ length plan.old }
-        ensures amount { result ≡ backward_amount T.Tally (places_of self.now.chart.now) (arcs_of self.now.chart.now) (marked self.now.standing.now) (price_at self.now.prices.now) 1 0 }
-        ensures plan { (found : Bool) × Outcome T.Tally (places_of self.now.chart.now) (arcs_of self.now.chart.now) (marked self.now.standing.now) (price_at self.now.prices.now) plan.old plan.new found }
+        ensures amount { result ≡ over_all T.Tally self.now }
+        ensures plan { (found : Bool) × TracedInto T.Tally self.now plan.old plan.new found }
     {
         self.backward::<T>(table);
         self.trace::<T>(table, plan);
@@ -34,8 +34,8 @@ impl Priced<'_> {
     /// first places of the buffer.
     pub fn least_plan(&self, plan: &mut [usize]) -> Option<i64>
         requires { places_of self.now.chart.now ≤ length plan.old }
-        ensures amount { result ≡ amount_in (price_sum (price_at self.now.prices.now)) (cheapest (price_sum (price_at self.now.prices.now)) (standing_plans (places_of self.now.chart.now) (arcs_of self.now.chart.now) (marked self.now.standing.now))) }
-        ensures plan { plan.new ≡ written (cheapest (price_sum (price_at self.now.prices.now)) (standing_plans (places_of self.now.chart.now) (arcs_of self.now.chart.now) (marked self.now.standing.now))) plan.old }
+        ensures amount { result ≡ amount_in (price_sum (price_at self.now.prices.now)) (least_of self.now) }
+        ensures plan { plan.new ≡ written (least_of self.now) plan.old }
     {
         self.attain::<Least>(&mut [None; 1056], plan)
     }

@@ -1,9 +1,9 @@
 //! The sweep over the levels of a chart, one for every kind of tally and for both directions.
 ghost use Rattle.std.specs.Prelude.{◌≡◌, ℕ, ◌+◌, ◌<◌, ◌≤◌, length, slice_index_or, unsigned_abs};
-ghost use Rattle.charts.specs.Drafts.{places_of, arcs_of};
+ghost use Rattle.charts.specs.Drafts.{places_of};
 ghost use Rattle.tallies.specs.Laws.{wide};
-ghost use Rattle.ways.specs.Amounts.{marked, price_at, Forward as ForwardTable, Backward as BackwardTable};
-ghost use Rattle.ways.specs.Ways.{relaxed, Filled};
+ghost use Rattle.ways.specs.Ways.{relaxed};
+ghost use Rattle.sweeps.specs.Tables.{FilledTo, ForwardTable, BackwardTable};
 
 use super::priced::Priced;
 use tallies::heading::{Backward, Heading, Onward};
@@ -36,8 +36,8 @@ impl Priced<'_> {
     fn cross<T: Tally, H: Heading>(&self, step: usize, out: &mut [T::Amount])
         requires long { length out.old ≡ 1056 }
         requires more { step < places_of self.now.chart.now }
-        requires filled { Filled T.Tally H.Heading (places_of self.now.chart.now) (arcs_of self.now.chart.now) (marked self.now.standing.now) (price_at self.now.prices.now) step out.old }
-        ensures { Filled T.Tally H.Heading (places_of self.now.chart.now) (arcs_of self.now.chart.now) (marked self.now.standing.now) (price_at self.now.prices.now) (step + 1) out.new }
+        requires filled { FilledTo T.Tally self.now H.Heading step out.old }
+        ensures { FilledTo T.Tally self.now H.Heading (step + 1) out.new }
     {
         let places = usize::from(self.chart.places());
         let place = H::place_at(places, step);
@@ -58,7 +58,7 @@ impl Priced<'_> {
     /// A whole sweep: writes into the table, for each number of steps and each node, the joining over all ways.
     fn sweep<T: Tally, H: Heading>(&self, out: &mut [T::Amount])
         requires { length out.old ≡ 1056 }
-        ensures { Filled T.Tally H.Heading (places_of self.now.chart.now) (arcs_of self.now.chart.now) (marked self.now.standing.now) (price_at self.now.prices.now) (places_of self.now.chart.now) out.new }
+        ensures { FilledTo T.Tally self.now H.Heading (places_of self.now.chart.now) out.new }
     {
         let places = usize::from(self.chart.places());
         fill(out, T::NO_PLAN);
@@ -71,7 +71,7 @@ impl Priced<'_> {
     /// Writes, for each node, the joining over all standing partial plans from the root to it.
     pub fn forward<T: Tally>(&self, out: &mut [T::Amount])
         requires { length out.old ≡ 1056 }
-        ensures { ForwardTable T.Tally (places_of self.now.chart.now) (arcs_of self.now.chart.now) (marked self.now.standing.now) (price_at self.now.prices.now) out.new }
+        ensures { ForwardTable T.Tally self.now out.new }
     {
         self.sweep::<T, Onward>(out);
     }
@@ -79,7 +79,7 @@ impl Priced<'_> {
     /// Writes, for each node, the joining over all standing partial plans from it to the end.
     pub fn backward<T: Tally>(&self, out: &mut [T::Amount])
         requires { length out.old ≡ 1056 }
-        ensures { BackwardTable T.Tally (places_of self.now.chart.now) (arcs_of self.now.chart.now) (marked self.now.standing.now) (price_at self.now.prices.now) out.new }
+        ensures { BackwardTable T.Tally self.now out.new }
     {
         self.sweep::<T, Backward>(out);
     }

@@ -1,9 +1,8 @@
 //! The trace of a plan along the table of a backward sweep.
 ghost use Rattle.std.specs.Prelude.{◌≡◌, ◌≤◌, length};
 ghost use Rattle.plans.specs.Plans.{Node};
-ghost use Rattle.charts.specs.Drafts.{places_of, arcs_of};
-ghost use Rattle.ways.specs.Amounts.{marked, price_at, Backward};
-ghost use Rattle.ways.specs.Traces.{Picked, Outcome};
+ghost use Rattle.charts.specs.Drafts.{places_of};
+ghost use Rattle.sweeps.specs.Tables.{BackwardTable, PickedAt, TracedInto};
 
 use super::priced::Priced;
 use tallies::tally::Choosing;
@@ -11,11 +10,11 @@ use tallies::tally::Choosing;
 impl Priced<'_> {
     /// The smallest standing arc from node `node` of level `place` that attains the node's amount.
     fn pick<T: Choosing>(&self, table: &[T::Amount], place: usize, node: usize) -> Option<usize>
-        requires filled { Backward T.Tally (places_of self.now.chart.now) (arcs_of self.now.chart.now) (marked self.now.standing.now) (price_at self.now.prices.now) table.now }
+        requires filled { BackwardTable T.Tally self.now table.now }
         requires long { length table.now ≡ 1056 }
         requires there { Node (places_of self.now.chart.now) place node }
         requires before_end { place ≤ places_of self.now.chart.now }
-        ensures { Picked T.Tally (places_of self.now.chart.now) (arcs_of self.now.chart.now) (marked self.now.standing.now) (price_at self.now.prices.now) place node result }
+        ensures { PickedAt T.Tally self.now place node result }
     {
         let whole = table[32 * (place - 1) + node];
         let arcs = self.chart.arcs();
@@ -37,10 +36,10 @@ impl Priced<'_> {
     /// the plan that takes, at each node from the root on, the smallest arc that attains the node's amount, and
     /// answers whether there is one.
     pub fn trace<T: Choosing>(&self, table: &[T::Amount], plan: &mut [usize]) -> bool
-        requires filled { Backward T.Tally (places_of self.now.chart.now) (arcs_of self.now.chart.now) (marked self.now.standing.now) (price_at self.now.prices.now) table.now }
+        requires filled { BackwardTable T.Tally self.now table.now }
         requires long { length table.now ≡ 1056 }
         requires room { places_of self.now.chart.now ≤ length plan.old }
-        ensures { Outcome T.Tally (places_of self.now.chart.now) (arcs_of self.now.chart.now) (marked self.now.standing.now) (price_at self.now.prices.now) plan.old plan.new result }
+        ensures { TracedInto T.Tally self.now plan.old plan.new result }
     {
         if T::first(T::NO_PLAN, table[0]) {
             return false;

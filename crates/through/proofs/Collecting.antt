@@ -82,7 +82,7 @@ module _ (us : List Rule) (zs : List ℤ) (numbers : List ℕ) (asked : Priceabl
   pub active_there : (j : ℕ) → j < length numbers → get_or numbers j 0 < length zs
   active_there = c.below
 
-  pub active_below : (j : ℕ) → j < length numbers → get_or numbers j 0 < length us
+  active_below : (j : ℕ) → j < length numbers → get_or numbers j 0 < length us
   active_below j l = omega (arith, active_there j l, fair_length us zs asked.fair)
 
   -- an arc's price is made by these rules alone

@@ -1,11 +1,8 @@
 use Rattle.through.proofs.Asked.{rule_there, limit_fits, owed_fits, owed_is}
 use Rattle.pricing.proofs.Pricing.limit_part.Goals as goal
 
-pub limit_of-limit-requires : goal.limit_of-limit-requires
-limit_of-limit-requires g c = record {
-  few = c.args.self.now.asked.few;
-  there = rule_there (g.B.Bank.rules c.args.self.now.bank.now) c.args.self.now.multipliers.now c.args.self.now.asked c.args.rule c.requires;
-}
+pub limit_of-limit-requires-clause-there : goal.limit_of-limit-requires-clause-there
+limit_of-limit-requires-clause-there g c = rule_there (g.B.Bank.rules c.args.self.now.bank.now) c.args.self.now.multipliers.now c.args.self.now.asked c.args.rule c.requires
 
 pub overflow_mul-result : goal.overflow_mul-result
 overflow_mul-result g c =

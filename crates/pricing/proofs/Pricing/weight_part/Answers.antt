@@ -1,12 +1,8 @@
 use Rattle.through.proofs.Asked.{rule_there, worth_fits, worth_is}
 use Rattle.pricing.proofs.Pricing.weight_part.Goals as goal
 
-pub weight_at-weight-requires : goal.weight_at-weight-requires
-weight_at-weight-requires g c = record {
-  few = c.args.self.now.asked.few;
-  there = rule_there (g.B.Bank.rules c.args.self.now.bank.now) c.args.self.now.multipliers.now c.args.self.now.asked c.args.rule c.requires.there;
-  fit = c.requires.fit;
-}
+pub weight_at-weight-requires-clause-there : goal.weight_at-weight-requires-clause-there
+weight_at-weight-requires-clause-there g c = rule_there (g.B.Bank.rules c.args.self.now.bank.now) c.args.self.now.multipliers.now c.args.self.now.asked c.args.rule c.requires.there
 
 pub overflow_mul-result : goal.overflow_mul-result
 overflow_mul-result g c =
