@@ -91,9 +91,7 @@ impl<B: Bank> Casebook<B> {
         ensures left { model_in self.new ≡ (on_trim (problem_in B.Bank self.old) (model_in self.old)).left }
         ensures same { problem_in B.Bank self.new ≡ problem_in B.Bank self.old }
     {
-        if self.desk.height() == 0 {
-            return Err(Refusal::NoCase);
-        }
+        self.desk.case_row()?;
         Ok(self.desk.trim())
     }
 

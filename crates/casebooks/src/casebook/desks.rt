@@ -111,10 +111,7 @@ impl Desk {
     pub fn split_row(&self, place: u64, routes: RouteSet) -> Result<(), Refusal>
         ensures { result ≡ passed (split_rows (problem_of self.now []) (model_of self.now) place routes.bits) }
     {
-        let height = self.pile.height();
-        if height == 0 {
-            return Err(Refusal::NoCase);
-        }
+        self.case_row()?;
         if place < 1 || place > u64::from(self.chart.places()) {
             return Err(Refusal::SplitPlace);
         }
@@ -125,7 +122,7 @@ impl Desk {
         if self.pile.is_one_sided(arcs_in(&self.chart), split) {
             return Err(Refusal::OneSided);
         }
-        if height >= 1024 {
+        if self.height() >= 1024 {
             return Err(Refusal::PileFull);
         }
         Ok(())
