@@ -11,9 +11,12 @@ use Rattle.judging.specs.Calls.{one_sided}
 use Rattle.piles.specs.declared.pile.Split.{Split}
 use Rattle.piles.specs.declared.pile.Side.TheVariants.{Inside, Outside}
 use Rattle.piles.specs.Heights.{split_at, stands_at, cases_of, sided, cut_mark, lift_mark, keep_mark}
-use Rattle.piles.proofs.Heights.{top_stands, kept_low, kept_cases, split_low, split_cases, closed_low, closed_cases}
+use Rattle.piles.proofs.Heights.{length_cases, top_stands, kept_low, kept_cases, split_low, split_cases, closed_low, closed_cases}
 
-module _ (arcs : List Arc) (marks : List ℕ) (splits : List Split) (k : ℕ) (some : 0 < k) (low : (a : ℕ) → get_or marks a 0 ≤ k) where
+module _ (arcs : List Arc) (marks : List ℕ) (splits : List Split) (k : ℕ) (open_case : 0 < length (cases_of arcs marks splits k)) (low : (a : ℕ) → get_or marks a 0 ≤ k) where
+  pub some : 0 < k
+  some = omega (arith, open_case, length_cases arcs marks splits k)
+
   -- which arcs stand in the working case
   pub working_view : (a : ℕ) → (ltb a (length arcs) && eqb (get_or marks a 0) 0) ≡ top (cases_of arcs marks splits k) a
   working_view a = at k some low
