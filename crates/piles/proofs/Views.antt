@@ -1,5 +1,5 @@
 -- The calls on a pile of any height. Assumes nothing.
-use Rattle.std.proofs.Common.{◌≡◌, ℕ, zero, suc, ◌+◌, ◌-◌, ◌<◌, ◌≤◌, Bool, true, false, not, ◌&&◌, ◌||◌, eqb, ltb, List, ◌∷◌, length, get_or, set, sym, refl, ap, ◌∙◌, subst, ap₂, add-one, arith}
+use Rattle.std.proofs.Common.{◌≡◌, ℕ, zero, suc, ◌+◌, ◌-◌, ◌<◌, ◌≤◌, Bool, true, false, not, ◌&&◌, ◌||◌, eqb, ltb, List, ◌∷◌, length, get_or, set, sym, refl, ap, ◌∙◌, ap₂, add-one, arith}
 use mathlib.Core.Path.{fun_ext}
 use Rattle.std.proofs.lemmas.Bool.Decides.{nat_tests}
 use Rattle.terms.specs.declared.arc.Arc.{Arc}
@@ -11,7 +11,7 @@ use Rattle.judging.specs.Calls.{one_sided}
 use Rattle.piles.specs.declared.pile.Split.{Split}
 use Rattle.piles.specs.declared.pile.Side.TheVariants.{Inside, Outside}
 use Rattle.piles.specs.Heights.{split_at, stands_at, cases_of, sided, cut_mark, lift_mark, keep_mark}
-use Rattle.piles.proofs.Heights.{top_stands, kept_low, kept_cases, split_low, split_cases, closed_low, closed_cases}
+use Rattle.piles.proofs.Heights.{top_stands, kept_low, kept_cases, split_low, split_cases, closed_cases}
 
 module _ (arcs : List Arc) (marks : List ℕ) (splits : List Split) where
   -- a case is open on a pile of a height
@@ -86,12 +86,6 @@ close_last arcs marks new splits zero e = refl
 close_last arcs marks new splits (suc zero) e = refl
 close_last arcs marks new splits (suc (suc i)) e = absurd (omega arith)
 
-pub lifted_low : (marks new : List ℕ) (k : ℕ) → ((a : ℕ) → get_or marks a 0 ≤ k) → k ≡ 1 → ((a : ℕ) → get_or new a 0 ≡ lift_mark k (get_or marks a 0)) → (a : ℕ) → get_or new a 0 ≤ k - 1
-lifted_low marks new k low e each a = subst (λ m. m ≤ k - 1) (sym (each a)) (by (get_or marks a 0) (low a))
-  where
-    by : (m : ℕ) → m ≤ k → lift_mark k m ≤ k - 1
-    by m h = grind (arith, nat_tests, e)
-
 module _ (arcs : List Arc) (marks lifted new : List ℕ) (splits : List Split) where
   abbrev Steps : ℕ → Type 0
   Steps k = (a : ℕ) → get_or new a 0 ≡ cut_mark arcs (split_at splits (k - 2)).place (split_at splits (k - 2)).routes.bits Inside (k - 1) a (get_or lifted a 0)
@@ -108,8 +102,3 @@ module _ (arcs : List Arc) (marks lifted new : List ℕ) (splits : List Split) w
   close_view (suc (suc i)) h low one two =
       let down : suc (suc i) - 1 ≡ suc i = omega arith in
       ap (cases_of arcs new splits) down ∙ closed_cases arcs marks new splits i low (together i one two)
-
-  pub close_low : (k : ℕ) → 1 < k → ((a : ℕ) → get_or marks a 0 ≤ k) → ((a : ℕ) → get_or lifted a 0 ≡ lift_mark k (get_or marks a 0)) → Steps k → (a : ℕ) → get_or new a 0 ≤ k - 1
-  close_low zero h low one two a = absurd (omega arith)
-  close_low (suc zero) h low one two a = absurd (omega arith)
-  close_low (suc (suc i)) h low one two a = omega (arith, closed_low arcs marks new splits i low (together i one two) a)

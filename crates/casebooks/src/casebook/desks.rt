@@ -22,7 +22,6 @@ use terms::verdict::Verdict;
 fn arcs_in(chart: &Chart) -> Arcs<'_>
     ensures { result.all.now ≡ arcs_of chart.now }
 {
-    let _ = chart.places();
     Arcs { all: chart.arcs() }
 }
 
