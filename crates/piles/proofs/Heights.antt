@@ -18,13 +18,6 @@ pub length_cases : (arcs : List Arc) (marks : List ℕ) (splits : List Split) (k
 length_cases arcs marks splits zero = refl
 length_cases arcs marks splits (suc i) = ap suc (length_under arcs marks splits i)
 
--- at the top no mark is higher, so an arc stands where it has none
-pub top_stands : (arcs : List Arc) (marks : List ℕ) (k : ℕ) → ((a : ℕ) → get_or marks a 0 ≤ k) → (a : ℕ) → stands_at arcs marks k a ≡ (ltb a (length arcs) && eqb (get_or marks a 0) 0)
-top_stands arcs marks k low a = ap (λ b. ltb a (length arcs) && b) (by (get_or marks a 0) (low a))
-  where
-    by : (m : ℕ) → m ≤ k → (eqb m 0 || ltb k m) ≡ eqb m 0
-    by m h = grind (arith, nat_tests)
-
 -- the cases under a height follow the marks up to it and the records below it
 pub under_same : (arcs : List Arc) (marks new : List ℕ) (splits more : List Split) (k : ℕ) → ((i : ℕ) → i ≤ k → stands_at arcs new i ≡ stands_at arcs marks i) → ((i : ℕ) → i < k → split_at more i ≡ split_at splits i) → cases_under arcs new more k ≡ cases_under arcs marks splits k
 under_same arcs marks new splits more zero h g = refl
@@ -44,13 +37,6 @@ keep_top true true m k h l = grind (arith, nat_tests)
 keep_top true false m k h l = grind (arith, nat_tests)
 
 module _ (arcs : List Arc) (marks new : List ℕ) (splits : List Split) (keep : List Bool) (i : ℕ) (low : (a : ℕ) → get_or marks a 0 ≤ suc i) (each : (a : ℕ) → get_or new a 0 ≡ keep_mark (length arcs) keep (suc i) a (get_or marks a 0)) where
-  pub kept_low : (a : ℕ) → get_or new a 0 ≤ suc i
-  kept_low a = subst (λ m. m ≤ suc i) (sym (each a)) (by (ltb a (length arcs) && (eqb (get_or marks a 0) 0 && not (get_or keep a false))) (get_or marks a 0) (low a))
-    where
-      by : (b : Bool) (m : ℕ) → m ≤ suc i → cond b (suc i) m ≤ suc i
-      by true m h = omega arith
-      by false m h = h
-
   -- the working case keeps what is kept, and the cases under it stay
   pub kept_cases : cases_of arcs new splits (suc i) ≡ (λ a. stands_at arcs marks (suc i) a && get_or keep a false) ∷ cases_under arcs marks splits i
   kept_cases =

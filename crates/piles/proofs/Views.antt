@@ -1,5 +1,5 @@
 -- The calls on a pile of any height. Assumes nothing.
-use Rattle.std.proofs.Common.{◌≡◌, ℕ, zero, suc, ◌+◌, ◌-◌, ◌<◌, ◌≤◌, Bool, true, false, not, ◌&&◌, ◌||◌, eqb, ltb, List, ◌∷◌, length, get_or, set, sym, refl, ap, ◌∙◌, ap₂, add-one, arith}
+use Rattle.std.proofs.Common.{◌≡◌, ℕ, zero, suc, ◌+◌, ◌-◌, ◌<◌, ◌≤◌, Bool, true, false, not, ◌&&◌, ◌||◌, eqb, ltb, List, ◌∷◌, length, get_or, set, refl, ap, ◌∙◌, ap₂, add-one, arith}
 use mathlib.Core.Path.{fun_ext}
 use Rattle.std.proofs.lemmas.Bool.Decides.{nat_tests}
 use Rattle.terms.specs.declared.arc.Arc.{Arc}
@@ -11,7 +11,7 @@ use Rattle.judging.specs.Calls.{one_sided}
 use Rattle.piles.specs.declared.pile.Split.{Split}
 use Rattle.piles.specs.declared.pile.Side.TheVariants.{Inside, Outside}
 use Rattle.piles.specs.Heights.{split_at, stands_at, cases_of, sided, cut_mark, lift_mark, keep_mark}
-use Rattle.piles.proofs.Heights.{top_stands, kept_low, kept_cases, split_low, split_cases, closed_cases}
+use Rattle.piles.proofs.Heights.{kept_cases, split_low, split_cases, closed_cases}
 
 module _ (arcs : List Arc) (marks : List ℕ) (splits : List Split) where
   -- a case is open on a pile of a height
@@ -22,18 +22,9 @@ module _ (arcs : List Arc) (marks : List ℕ) (splits : List Split) where
   abbrev Low : ℕ → Type 0
   Low k = (a : ℕ) → get_or marks a 0 ≤ k
 
-  -- which arcs stand in the working case
-  pub working_view : (k : ℕ) → Open k → Low k → (a : ℕ) → (ltb a (length arcs) && eqb (get_or marks a 0) 0) ≡ top (cases_of arcs marks splits k) a
-  working_view zero o low a = absurd (omega arith)
-  working_view (suc i) o low a = sym (top_stands arcs marks (suc i) low a)
-
   -- the marks after arcs of the working case that are not kept have left
   abbrev Kept : ℕ → List ℕ → List Bool → Type 0
   Kept k new keep = (a : ℕ) → get_or new a 0 ≡ keep_mark (length arcs) keep k a (get_or marks a 0)
-
-  pub keep_low : (k : ℕ) → Open k → Low k → (new : List ℕ) (keep : List Bool) → Kept k new keep → (a : ℕ) → get_or new a 0 ≤ k
-  keep_low zero o low new keep each a = absurd (omega arith)
-  keep_low (suc i) o low new keep each a = kept_low arcs marks new splits keep i low each a
 
   pub keep_view : (k : ℕ) → Open k → Low k → (new : List ℕ) (keep : List Bool) → Kept k new keep → cases_of arcs new splits k ≡ (λ a. top (cases_of arcs marks splits k) a && get_or keep a false) ∷ under (cases_of arcs marks splits k)
   keep_view zero o low new keep each = absurd (omega arith)
@@ -80,12 +71,7 @@ module _ (arcs : List Arc) (marks : List ℕ) (splits : List Split) where
       ap₂ (λ j n. cases_of arcs new (set splits j x) n) down (add-one (suc i))
       ∙ split_cases arcs marks new splits x i (omega arith) low (cut_up i x new each)
 
--- the working case is closed: the only one, and one with others under it
-pub close_last : (arcs : List Arc) (marks new : List ℕ) (splits : List Split) (k : ℕ) → k ≡ 1 → cases_of arcs new splits (k - 1) ≡ under (cases_of arcs marks splits k)
-close_last arcs marks new splits zero e = refl
-close_last arcs marks new splits (suc zero) e = refl
-close_last arcs marks new splits (suc (suc i)) e = absurd (omega arith)
-
+-- the working case is closed, with others under it
 module _ (arcs : List Arc) (marks lifted new : List ℕ) (splits : List Split) where
   abbrev Steps : ℕ → Type 0
   Steps k = (a : ℕ) → get_or new a 0 ≡ cut_mark arcs (split_at splits (k - 2)).place (split_at splits (k - 2)).routes.bits Inside (k - 1) a (get_or lifted a 0)

@@ -1,12 +1,7 @@
 use Rattle.std.proofs.Common.{◌<◌, arith}
 use Rattle.piles.proofs.Heights.{length_cases}
-use Rattle.piles.proofs.Views.{close_last, close_view}
+use Rattle.piles.proofs.Views.{close_view}
 use Rattle.piles.proofs.pile.Pile.close.Goals as goal
-
-pub returns-then-height-eq1 : goal.returns-then-height-eq1
-returns-then-height-eq1 c =
-    let s = c.args.self.now in
-    close_last c.args.arcs.all.now s.marks.at c.lift.new.self.at s.table.at s.table.count c.if-height-eq1.true
 
 pub returns : goal.returns
 returns c =

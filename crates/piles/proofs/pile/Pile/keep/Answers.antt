@@ -1,14 +1,5 @@
-use Rattle.piles.proofs.Views.{keep_view, keep_low}
+use Rattle.piles.proofs.Views.{keep_view}
 use Rattle.piles.proofs.pile.Pile.keep.Goals as goal
-
-pub invariant_of-self : goal.invariant_of-self
-invariant_of-self c =
-    let s = c.args.self.now in
-    record {
-      recorded = s.recorded;
-      within = s.within;
-      low = keep_low c.args.arcs.all.now s.marks.at s.table.at s.table.count c.requires.some s.low c.keep.new.self.at c.args.keeps.now c.keep.ensures;
-    }
 
 pub returns : goal.returns
 returns c =
