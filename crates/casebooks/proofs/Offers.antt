@@ -1,51 +1,21 @@
 -- An offered plan, arc by arc. Assumes nothing.
-use Rattle.std.proofs.Common.{◌≡◌, ℕ, zero, suc, ◌+◌, ◌<◌, ◌≤◌, Bool, true, false, cond, ltb, List, [], ◌∷◌, ◌++◌, length, get_or, take, drop, ℤ, pos, ◌+ℤ◌, ◌-ℤ◌, neg_ℤ, nat_abs, Some, None, sym, refl, ap, ◌∙◌, subst, add-one, arith, w64, SFits, to_z, of_z}
+use Rattle.std.proofs.Common.{◌≡◌, ℕ, zero, suc, ◌+◌, ◌<◌, ◌≤◌, List, [], ◌∷◌, ◌++◌, length, get_or, take, ℤ, pos, ◌+ℤ◌, ◌-ℤ◌, neg_ℤ, nat_abs, sym, refl, ap, ◌∙◌, subst, arith, w64, SFits, to_z, of_z}
 use Rattle.std.specs.List.{sum_by}
 use Rattle.std.proofs.lemmas.List.Sums.{sum_by-cons}
-use Rattle.std.proofs.lemmas.List.{take_more, drop_more, drop_all}
+use Rattle.std.proofs.lemmas.List.{take_more}
 use Rattle.terms.specs.declared.arc.Arc.{Arc}
 use Rattle.plans.specs.Arcs.{arc_at}
-use Rattle.plans.specs.Plans.{next, Path, cost}
+use Rattle.plans.specs.Plans.{Path, cost}
 use Rattle.plans.proofs.Steps.{next_there}
 use Rattle.rules.specs.Rules.{Rule}
 use Rattle.rules.specs.Lawful.{weighed}
 use Rattle.std.proofs.lemmas.Int.{ints, to_z-of_z}
 use Rattle.amounts.proofs.Sizes.{fits, add_size, neg_size}
-use Rattle.charts.specs.Drafts.{arc_numbered}
-use Rattle.judging.specs.Calls.{stray}
 
 -- the cost of a plan is the sum of its arcs' minutes
 pub cost_summed : (arcs : List Arc) (p : List ℕ) → sum_by (λ a. (arc_at arcs a).minutes) p ≡ cost arcs p
 cost_summed arcs [] = refl
 cost_summed arcs (a ∷ p) = sum_by-cons _ a p ∙ ap (λ n. (arc_at arcs a).minutes + n) (cost_summed arcs p)
-
--- what is known of an arc that is there, and of one that is not
-from_cond : {X : Type 0} (b : Bool) (x y : X) → Some x ≡ cond b (Some y) None → (b ≡ true) × (x ≡ y)
-from_cond true x y e = (refl, cc)
-from_cond false x y e = let z : ◌≡◌ {A = ℕ} 0 1 = cc in absurd (omega arith)
-
-to_none : {X : Type 0} (b : Bool) (y : X) → None ≡ cond b (Some y) None → b ≡ false
-to_none true y e = let z : ◌≡◌ {A = ℕ} 0 1 = cc in absurd (omega arith)
-to_none false y e = refl
-
-pub arc_known : (arcs : List Arc) (a : ℕ) (x : Arc) → Some x ≡ arc_numbered arcs a → (ltb a (length arcs) ≡ true) × (x ≡ arc_at arcs a)
-arc_known arcs a x e = from_cond (ltb a (length arcs)) x (arc_at arcs a) e
-
-pub arc_missing : (arcs : List Arc) (a : ℕ) → None ≡ arc_numbered arcs a → ltb a (length arcs) ≡ false
-arc_missing arcs a e = to_none (ltb a (length arcs)) (arc_at arcs a) e
-
--- the walk along an offered plan, place by place
-module _ (arcs : List Arc) (p : List ℕ) (j v : ℕ) (l : j < length p) where
-  pub stray_bad : next arcs (j + 1) v (get_or p j 0) ≡ false → stray arcs (j + 1) v (drop j p) ≡ Some (j + 1)
-  stray_bad e =
-      ap (stray arcs (j + 1) v) (drop_more p j 0 l) ∙ ap (λ b. cond b (stray arcs (suc (j + 1)) (arc_at arcs (get_or p j 0)).end (drop (j + 1) p)) (Some (j + 1))) e
-
-  pub stray_good : next arcs (j + 1) v (get_or p j 0) ≡ true → stray arcs (j + 1) v (drop j p) ≡ stray arcs (j + 1 + 1) (arc_at arcs (get_or p j 0)).end (drop (j + 1) p)
-  stray_good e =
-      ap (stray arcs (j + 1) v) (drop_more p j 0 l) ∙ ap (λ b. cond b (stray arcs (suc (j + 1)) (arc_at arcs (get_or p j 0)).end (drop (j + 1) p)) (Some (j + 1))) e ∙ ap (λ k. stray arcs k (arc_at arcs (get_or p j 0)).end (drop (j + 1) p)) (sym (add-one (j + 1)))
-
-pub stray_end : (arcs : List Arc) (p : List ℕ) (j k v : ℕ) → length p ≤ j → stray arcs k v (drop j p) ≡ None
-stray_end arcs p j k v h = ap (stray arcs k v) (drop_all j p h)
 
 -- one arc more in the sum of a rule's weights
 module _ (arcs : List Arc) (u : Rule) where

@@ -14,7 +14,8 @@ mod offers;
 mod rows;
 mod working;
 
-/// The plan of the offer accepted last, in the first places of the array.
+/// The plan of the offer accepted last, in the first places of the array: as many as the chart has, so no length stands
+/// beside it.
 #[derive(Clone, Copy)]
 pub struct HeldPlan {
     at: [usize; 32],

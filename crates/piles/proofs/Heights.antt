@@ -5,7 +5,6 @@ use Rattle.std.proofs.lemmas.Bool.Decides.{nat_tests}
 use Rattle.terms.specs.declared.arc.Arc.{Arc}
 use Rattle.terms.specs.Routes.{in_set}
 use Rattle.plans.specs.Arcs.{arc_at}
-use Rattle.plans.specs.Cases.{every}
 use Rattle.judging.specs.Cases.{inside, outside}
 use Rattle.piles.specs.declared.pile.Split.{Split}
 use Rattle.piles.specs.declared.pile.Side.TheVariants.{Inside, Outside}
@@ -18,21 +17,6 @@ length_under arcs marks splits (suc i) = ap suc (length_under arcs marks splits 
 pub length_cases : (arcs : List Arc) (marks : List ℕ) (splits : List Split) (k : ℕ) → length (cases_of arcs marks splits k) ≡ k
 length_cases arcs marks splits zero = refl
 length_cases arcs marks splits (suc i) = ap suc (length_under arcs marks splits i)
-
--- with no mark, every arc stands
-pub all_stand : (arcs : List Arc) (marks : List ℕ) (i : ℕ) → ((a : ℕ) → get_or marks a 0 ≡ 0) → stands_at arcs marks i ≡ every arcs
-all_stand arcs marks i none = fun_ext (λ a. subst (λ m. (ltb a (length arcs) && (eqb m 0 || ltb i m)) ≡ ltb a (length arcs)) (sym (none a)) (by (ltb a (length arcs))))
-  where
-    by : (b : Bool) → (b && true) ≡ b
-    by true = refl
-    by false = refl
-
--- at the top no mark is higher, so an arc stands where it has none
-pub top_stands : (arcs : List Arc) (marks : List ℕ) (k : ℕ) → ((a : ℕ) → get_or marks a 0 ≤ k) → (a : ℕ) → stands_at arcs marks k a ≡ (ltb a (length arcs) && eqb (get_or marks a 0) 0)
-top_stands arcs marks k low a = ap (λ b. ltb a (length arcs) && b) (by (get_or marks a 0) (low a))
-  where
-    by : (m : ℕ) → m ≤ k → (eqb m 0 || ltb k m) ≡ eqb m 0
-    by m h = grind (arith, nat_tests)
 
 -- the cases under a height follow the marks up to it and the records below it
 pub under_same : (arcs : List Arc) (marks new : List ℕ) (splits more : List Split) (k : ℕ) → ((i : ℕ) → i ≤ k → stands_at arcs new i ≡ stands_at arcs marks i) → ((i : ℕ) → i < k → split_at more i ≡ split_at splits i) → cases_under arcs new more k ≡ cases_under arcs marks splits k
@@ -53,13 +37,6 @@ keep_top true true m k h l = grind (arith, nat_tests)
 keep_top true false m k h l = grind (arith, nat_tests)
 
 module _ (arcs : List Arc) (marks new : List ℕ) (splits : List Split) (keep : List Bool) (i : ℕ) (low : (a : ℕ) → get_or marks a 0 ≤ suc i) (each : (a : ℕ) → get_or new a 0 ≡ keep_mark (length arcs) keep (suc i) a (get_or marks a 0)) where
-  pub kept_low : (a : ℕ) → get_or new a 0 ≤ suc i
-  kept_low a = subst (λ m. m ≤ suc i) (sym (each a)) (by (ltb a (length arcs) && (eqb (get_or marks a 0) 0 && not (get_or keep a false))) (get_or marks a 0) (low a))
-    where
-      by : (b : Bool) (m : ℕ) → m ≤ suc i → cond b (suc i) m ≤ suc i
-      by true m h = omega arith
-      by false m h = h
-
   -- the working case keeps what is kept, and the cases under it stay
   pub kept_cases : cases_of arcs new splits (suc i) ≡ (λ a. stands_at arcs marks (suc i) a && get_or keep a false) ∷ cases_under arcs marks splits i
   kept_cases =
@@ -115,14 +92,7 @@ closed_level false e m k i h l = refl
 closed_level true true m k i h l = grind (arith, nat_tests)
 closed_level true false m k i h l = grind (arith, nat_tests)
 
-closed_mark : (b : Bool) (m k : ℕ) → m ≤ suc k → cond b k (lift_mark (suc k) m) ≤ k
-closed_mark true m k h = omega arith
-closed_mark false m k h = grind (arith, nat_tests)
-
 module _ (arcs : List Arc) (marks new : List ℕ) (splits : List Split) (i : ℕ) (low : (a : ℕ) → get_or marks a 0 ≤ suc (suc i)) (each : (a : ℕ) → get_or new a 0 ≡ cut_mark arcs (split_at splits i).place (split_at splits i).routes.bits Inside (suc i) a (lift_mark (suc (suc i)) (get_or marks a 0))) where
-  pub closed_low : (a : ℕ) → get_or new a 0 ≤ suc i
-  closed_low a = subst (λ m. m ≤ suc i) (sym (each a)) (closed_mark (sided arcs (split_at splits i).place (split_at splits i).routes.bits Inside a (lift_mark (suc (suc i)) (get_or marks a 0))) (get_or marks a 0) (suc i) (low a))
-
   pub closed_cases : cases_of arcs new splits (suc i) ≡ cases_under arcs marks splits (suc i)
   closed_cases =
       ap₂ ◌∷◌ (fun_ext (λ a. subst (λ m. (ltb a (length arcs) && (eqb m 0 || ltb (suc i) m)) ≡ left_by arcs (split_at splits i) (stands_at arcs marks (suc i)) a) (sym (each a)) (closed_top (ltb a (length arcs)) (eqb (arc_at arcs a).place (split_at splits i).place) (in_set (split_at splits i).routes.bits (arc_at arcs a).route) (get_or marks a 0) (suc i) (low a) (omega arith))))

@@ -1,5 +1,5 @@
 -- The loops over the marks. Assumes nothing.
-use Rattle.std.proofs.Common.{◌≡◌, ℕ, zero, suc, ◌<◌, ◌≤◌, Bool, true, false, cond, ◌&&◌, ◌||◌, eqb, ltb, List, [], ◌∷◌, length, get_or, replicate, sym, refl, ap, ◌∙◌, inl, inr, arith}
+use Rattle.std.proofs.Common.{◌≡◌, ℕ, zero, suc, ◌<◌, ◌≤◌, Bool, true, false, ◌&&◌, ◌||◌, eqb, ltb, List, [], ◌∷◌, length, get_or, replicate, sym, refl, ap, ◌∙◌, inl, inr, arith}
 use mathlib.Core.Path.{fun_ext}
 use Rattle.std.specs.Bool.{MatchBool}
 use Rattle.std.specs.List.{list_any, zip, HoldsAt, AllWithin}
@@ -12,7 +12,7 @@ use Rattle.terms.specs.declared.arc.Arc.{Arc}
 use Rattle.terms.specs.Routes.{in_set}
 use Rattle.plans.specs.Cases.{Case, any}
 use Rattle.piles.specs.declared.pile.Side.{Side}
-use Rattle.piles.specs.Heights.{on_side, sided, lift_mark}
+use Rattle.piles.specs.Heights.{on_side, sided}
 
 -- an array that was filled with a value has it everywhere, also past its end
 pub filled : {A : Type 0} (n : ℕ) (x : A) (a : ℕ) → get_or (replicate n x) a x ≡ x
@@ -58,11 +58,3 @@ pub any_told : {X : Type 0} (test : X → Bool) (xs : List X) (r : Bool) → Mat
 any_told test [] true m = absurd (omega arith)
 any_told test (x ∷ xs) true m = sym (list_any_at test (x ∷ xs) m.0 x m.1 (m.2 x))
 any_told test xs false m = sym (list_any_none test xs (λ k d l. m k d (omega arith) l))
-
--- no mark is taken from an arc that has none
-pub lift_none : (height m : ℕ) → m ≡ 0 → m ≡ lift_mark height m
-lift_none height m e = e ∙ sym (both (eqb m height) m e)
-  where
-    both : (b : Bool) (m : ℕ) → m ≡ 0 → cond b 0 m ≡ 0
-    both true m e = refl
-    both false m e = e

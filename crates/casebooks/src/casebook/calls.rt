@@ -91,9 +91,7 @@ impl<B: Bank> Casebook<B> {
         ensures left { model_in self.new ≡ (on_trim (problem_in B.Bank self.old) (model_in self.old)).left }
         ensures same { problem_in B.Bank self.new ≡ problem_in B.Bank self.old }
     {
-        if self.desk.height() == 0 {
-            return Err(Refusal::NoCase);
-        }
+        self.desk.case_row()?;
         Ok(self.desk.trim())
     }
 
@@ -108,9 +106,8 @@ impl<B: Bank> Casebook<B> {
         if let Some(amount) = self.desk.undercut(&self.bank, multipliers) {
             return Err(Refusal::NotClosed(amount));
         }
-        let height = self.desk.height();
         self.desk.close();
-        Ok(height - 1)
+        Ok(self.desk.height())
     }
 
     /// Splits the working case: it keeps, at a place, only the routes outside a set, and a copy with only those
@@ -121,9 +118,8 @@ impl<B: Bank> Casebook<B> {
         ensures same { problem_in B.Bank self.new ≡ problem_in B.Bank self.old }
     {
         self.desk.split_row(place, routes)?;
-        let height = self.desk.height();
         self.desk.split(place as u8, routes);
-        Ok(height + 1)
+        Ok(self.desk.height())
     }
 
     /// Judges arc numbers against the chart as sealed, and holds the plan. Answers its cost.

@@ -22,7 +22,6 @@ use terms::verdict::Verdict;
 fn arcs_in(chart: &Chart) -> Arcs<'_>
     ensures { result.all.now ≡ arcs_of chart.now }
 {
-    let _ = chart.places();
     Arcs { all: chart.arcs() }
 }
 
@@ -111,10 +110,7 @@ impl Desk {
     pub fn split_row(&self, place: u64, routes: RouteSet) -> Result<(), Refusal>
         ensures { result ≡ passed (split_rows (problem_of self.now []) (model_of self.now) place routes.bits) }
     {
-        let height = self.pile.height();
-        if height == 0 {
-            return Err(Refusal::NoCase);
-        }
+        self.case_row()?;
         if place < 1 || place > u64::from(self.chart.places()) {
             return Err(Refusal::SplitPlace);
         }
@@ -125,7 +121,7 @@ impl Desk {
         if self.pile.is_one_sided(arcs_in(&self.chart), split) {
             return Err(Refusal::OneSided);
         }
-        if height >= 1024 {
+        if self.height() >= 1024 {
             return Err(Refusal::PileFull);
         }
         Ok(())

@@ -43,7 +43,7 @@ impl Pile {
 
     /// Which arcs stand in the working case.
     pub fn working(&self, arcs: Arcs) -> [bool; 1024]
-        requires some { 0 < length (pile_of arcs.all.now self.now) }
+        requires { 0 < length (pile_of arcs.all.now self.now) }
         ensures long { length result ≡ 1024 }
         ensures each { (a : ℕ) → slice_index_or result a false ≡ top (pile_of arcs.entry.all.now self.now) a }
     {
@@ -62,7 +62,7 @@ impl Pile {
 
     /// Whether a split of the working case would leave one side without an arc at the place.
     pub fn is_one_sided(&self, arcs: Arcs, split: Split) -> bool
-        requires some { 0 < length (pile_of arcs.all.now self.now) }
+        requires { 0 < length (pile_of arcs.all.now self.now) }
         ensures { result ≡ one_sided arcs.entry.all.now split.place split.routes.bits (top (pile_of arcs.entry.all.now self.now)) }
     {
         let within = self.marks.any_on_side(arcs, split, Side::Inside);
@@ -86,7 +86,7 @@ impl Pile {
 
     /// Removes the working case.
     pub fn close(&mut self, arcs: Arcs)
-        requires some { 0 < length (pile_of arcs.all.now self.old) }
+        requires { 0 < length (pile_of arcs.all.now self.old) }
         ensures { pile_of arcs.entry.all.now self.new ≡ under (pile_of arcs.entry.all.now self.old) }
     {
         let height = self.table.count;

@@ -43,6 +43,7 @@ impl Marks {
     pub fn cut(&mut self, arcs: Arcs, split: Split, side: Side, height: u16)
         ensures { (a : ℕ) → slice_index self.new.at a ≡ cut_mark arcs.entry.all.now split.place split.routes.bits side height a (slice_index self.old.at a) }
     {
+        // By number, as in `keep`: after a loop over `iter_mut().zip(..)` a proof knows no mark.
         for (i, arc) in arcs.all.iter().enumerate() {
             if self.at[i] == 0 && split.takes(side, *arc) {
                 self.at[i] = height;

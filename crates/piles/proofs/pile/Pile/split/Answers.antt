@@ -1,4 +1,4 @@
-use Rattle.std.proofs.Common.{◌<◌, ◌≤◌, length, ◌∙◌, arith, length-set}
+use Rattle.std.proofs.Common.{◌≤◌, length, ◌∙◌, arith, length-set}
 use Rattle.piles.proofs.Heights.{length_cases}
 use Rattle.piles.proofs.Views.{split_view, split_low_view}
 use Rattle.piles.proofs.pile.Pile.split.Goals as goal
@@ -7,21 +7,15 @@ pub invariant_of-self : goal.invariant_of-self
 invariant_of-self c =
     let s = c.args.self.now in
     let arcs = c.args.arcs.all.now in
-    let e = length_cases arcs s.marks.at s.table.at s.table.count in
-    let some : 0 < s.table.count = omega (arith, c.requires.some, e) in
-    let room : s.table.count < 1024 = omega (arith, c.requires.room, e) in
-    let long : s.table.count ≤ length s.table.at = omega (arith, s.recorded) in
+    let long : s.table.count ≤ length s.table.at = omega arith in
     record {
       recorded = length-set _ _ _ ∙ s.recorded;
-      within = omega arith;
-      low = split_low_view arcs s.marks.at s.table.at s.table.count some s.low c.args.split c.cut.new.self.at long c.cut.ensures;
+      within = omega (arith, length_cases arcs s.marks.at s.table.at s.table.count);
+      low = split_low_view arcs s.marks.at s.table.at s.table.count c.requires.some s.low c.args.split c.cut.new.self.at long c.cut.ensures;
     }
 
 pub returns : goal.returns
 returns c =
     let s = c.args.self.now in
-    let arcs = c.args.arcs.all.now in
-    let e = length_cases arcs s.marks.at s.table.at s.table.count in
-    let some : 0 < s.table.count = omega (arith, c.requires.some, e) in
-    let long : s.table.count ≤ length s.table.at = omega (arith, s.recorded, s.within) in
-    split_view arcs s.marks.at s.table.at s.table.count some s.low c.args.split c.cut.new.self.at long c.cut.ensures
+    let long : s.table.count ≤ length s.table.at = omega arith in
+    split_view c.args.arcs.all.now s.marks.at s.table.at s.table.count c.requires.some s.low c.args.split c.cut.new.self.at long c.cut.ensures

@@ -1,22 +1,12 @@
-use Rattle.std.proofs.Common.{◌≡◌, not, get_or, ◌-ℤ◌, sym, ap, ◌∙◌, arith}
+use Rattle.std.proofs.Common.{◌≡◌, not, get_or, ◌-ℤ◌, sym, ap, ◌∙◌}
 use Rattle.terms.specs.declared.rule.Head.{Head}
 use Rattle.charts.specs.Drafts.{arcs_of}
 use Rattle.rules.specs.Rules.{no_rule, head_in}
 use Rattle.rules.specs.Lawful.{weighed, meets}
-use Rattle.rules.proofs.Given.{head_known, head_missing, limit_within}
+use Rattle.rules.proofs.Given.{head_known, limit_within}
 use Rattle.amounts.proofs.Sizes.{within_size}
-use Rattle.casebooks.proofs.Offers.{total_fits, total_is}
+use Rattle.casebooks.proofs.Offers.{total_is}
 use Rattle.casebooks.proofs.casebook.offers.Offered.breaks.Goals as goal
-
-pub overflow_sub-weigh : goal.overflow_sub-weigh
-overflow_sub-weigh g c =
-    let us = g.B.Bank.rules c.args.bank.now in
-    let h = c.in-Some.head in
-    total_fits c.weigh.result h.limit c.weigh.ensures.small (within_size 1000000 h.limit (limit_within us c.args.rule h (g.B.Bank.within c.args.bank.now) c.in-Some.ensures))
-
-pub returns-in_default : goal.returns-in_default
-returns-in_default g c =
-    absurd (omega (arith, c.requires, head_missing (g.B.Bank.rules c.args.bank.now) c.args.rule c.in_default.ensures))
 
 pub returns : goal.returns
 returns g c =

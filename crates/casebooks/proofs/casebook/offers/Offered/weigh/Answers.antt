@@ -1,10 +1,9 @@
 use Rattle.std.proofs.Common.{◌+◌, ◌*◌, ◌<◌, ◌≤◌, get_or, take, ℤ, ◌+ℤ◌, nat_abs, sym, refl, ap, ◌∙◌, subst, arith}
-use Rattle.std.proofs.lemmas.List.{take_all}
 use Rattle.charts.specs.Drafts.{arcs_of}
 use Rattle.rules.specs.Rules.{no_rule}
 use Rattle.rules.specs.Lawful.{weighed}
 use Rattle.amounts.proofs.Sizes.{add_size}
-use Rattle.amounts.proofs.Passed.{sum_fits, sum_is}
+use Rattle.amounts.proofs.Passed.{sum_is}
 use Rattle.casebooks.proofs.Offers.{weighed_more}
 use Rattle.casebooks.proofs.casebook.offers.Offered.weigh.Goals as goal
 
@@ -14,14 +13,6 @@ both x y i a b l = omega (arith, add_size x y)
 
 step : (x y : ℤ) (i : Prim.Native.Nat.ℕ) → nat_abs x ≤ 10000 * i → nat_abs y ≤ 10000 → nat_abs (x +ℤ y) ≤ 10000 * (i + 1)
 step x y i a b = omega (arith, add_size x y)
-
-pub overflow_add-sum : goal.overflow_add-sum
-overflow_add-sum g c =
-    let y = c.weight_at-sum.result in
-    let i = c.loop-number.number-index in
-    let small = c.weight_at-sum.ensures.small in
-    let l : i < 32 = omega (arith, c.loop-number-test.true, c.args.self.few) in
-    sum_fits _ _ y 320000 refl (omega (arith, small)) (both _ y i c.loop-number.invariant.1 small l) (omega arith)
 
 pub loop-number-preserved : goal.loop-number-preserved
 loop-number-preserved g c =
@@ -35,11 +26,3 @@ loop-number-preserved g c =
       is ∙ ap (λ x. x +ℤ y) c.loop-number.invariant.0 ∙ ap (λ z. weighed (arcs_of c.args.self.chart.now) u (take i c.args.self.plan.now) +ℤ z) c.weight_at-sum.ensures.value ∙ sym more,
       subst (λ z. nat_abs z ≤ 10000 * (i + 1)) (sym is) (step _ y i c.loop-number.invariant.1 small),
     )
-
-pub returns : goal.returns
-returns g c =
-    let u = get_or (g.B.Bank.rules c.args.bank.now) c.args.rule no_rule in
-    record {
-      value = c.loop-number.invariant.0 ∙ ap (weighed (arcs_of c.args.self.chart.now) u) (take_all c.loop-number.number-index c.args.self.plan.now c.loop-number-test.false);
-      small = omega (arith, c.loop-number.invariant.1, c.args.self.few);
-    }
