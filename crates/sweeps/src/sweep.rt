@@ -1,5 +1,5 @@
 //! The sweep over the levels of a chart, one for every kind of tally and for both directions.
-ghost use Rattle.std.specs.Prelude.{◌≡◌, ℕ, ◌+◌, ◌<◌, ◌≤◌, length, slice_index_or, unsigned_abs};
+ghost use Rattle.std.specs.Prelude.{◌≡◌, ◌+◌, ◌<◌, length, slice_index_or, unsigned_abs};
 ghost use Rattle.charts.specs.Drafts.{places_of};
 ghost use Rattle.tallies.specs.Laws.{wide};
 ghost use Rattle.ways.specs.Ways.{relaxed};
@@ -8,15 +8,6 @@ ghost use Rattle.sweeps.specs.Tables.{FilledTo, ForwardTable, BackwardTable};
 use super::priced::Priced;
 use tallies::heading::{Backward, Heading, Onward};
 use tallies::tally::Tally;
-
-/// Writes one value into every entry.
-fn fill<X: Copy>(out: &mut [X], value: X)
-    ensures { (q : ℕ) → slice_index_or out.new q value ≡ value }
-{
-    for entry in out.iter_mut() {
-        *entry = value;
-    }
-}
 
 /// Extends the amount at entry `from` by the price, and joins that to entry `to`.
 fn relax<T: Tally>(from: usize, to: usize, price: i64, out: &mut [T::Amount])
@@ -61,7 +52,7 @@ impl Priced<'_> {
         ensures { FilledTo T.Tally self.now H.Heading (places_of self.now.chart.now) out.new }
     {
         let places = usize::from(self.chart.places());
-        fill(out, T::NO_PLAN);
+        out.fill_with(|| T::NO_PLAN);
         out[32 * H::row_at(places, 0)] = T::EMPTY_PLAN;
         for step in 0..places {
             self.cross::<T, H>(step, out);
