@@ -34,6 +34,7 @@ impl Priced<'_> {
         let place = H::place_at(places, step);
         let from = 32 * H::row_at(places, step);
         let to = 32 * H::row_at(places, step + 1);
+        // By index: a zip of arcs, marks and prices is no plainer, since its proof speaks of what three iterators have left.
         for (i, arc) in self.chart.arcs().iter().enumerate() {
             if self.standing[i] && usize::from(arc.place) == place {
                 relax::<T>(
@@ -58,6 +59,8 @@ impl Priced<'_> {
             self.cross::<T, H>(step, out);
         }
     }
+
+    // The two directions have a method each, since their contracts speak of other plans.
 
     /// Writes, for each node, the joining over all standing partial plans from the root to it.
     pub fn forward<T: Tally>(&self, out: &mut [T::Amount])

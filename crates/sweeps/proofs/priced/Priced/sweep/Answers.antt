@@ -1,4 +1,4 @@
-use Rattle.std.proofs.Common.{rules, ◌≡◌, ℕ, ◌*◌, get_or, set, sym, subst, subst₂, arith}
+use Rattle.std.proofs.Common.{rules, ◌≡◌, ℕ, ◌*◌, get_or, set, sym, subst₂, arith}
 use Rattle.charts.specs.Drafts.{places_of, arcs_of}
 use Rattle.charts.proofs.Tables.{sealed}
 use Rattle.ways.specs.Amounts.{marked, price_at}
@@ -18,11 +18,3 @@ loop-step-init g c =
     in
     let blank : (q : ℕ) → get_or c.fill_with.new.self q t.NO_PLAN ≡ t.NO_PLAN = all_given _ t.NO_PLAN (λ p x q r. search rules) c.fill_with.new.self _ _ c.fill_with.ensures.ran.1 in
     subst₂ (λ q x. Filled t h n arcs (marked c.args.self.now.standing.now) (price_at c.args.self.now.prices.now) 0 (set c.fill_with.new.self q x)) at (sym c.EMPTY_PLAN.ensures) (filled_start t g.met.T.Tally.lawful h g.met.H.Heading.lawful n (sealed c.args.self.now.chart.now).few arcs _ _ c.fill_with.new.self (omega arith) blank)
-
-pub returns : goal.returns
-returns g c =
-    let n = places_of c.args.self.now.chart.now in
-    let d = c.from-places.ensures in
-    let e = c.places.ensures.value in
-    let all : c.loop-step.step ≡ n = omega arith in
-    subst (λ k. Filled g.T.Tally g.H.Heading n (arcs_of c.args.self.now.chart.now) (marked c.args.self.now.standing.now) (price_at c.args.self.now.prices.now) k c.loop-step.out) all c.loop-step.invariant
