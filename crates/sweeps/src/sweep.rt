@@ -1,5 +1,5 @@
 //! The sweep over the levels of a chart, one for every kind of tally and for both directions.
-ghost use Rattle.std.specs.Prelude.{◌≡◌, ℕ, ◌+◌, ◌<◌, ◌≤◌, length, slice_index_or, unsigned_abs};
+ghost use Rattle.std.specs.Prelude.{◌≡◌, ◌+◌, ◌<◌, length, slice_index_or, unsigned_abs};
 ghost use Rattle.charts.specs.Drafts.{places_of};
 ghost use Rattle.tallies.specs.Laws.{wide};
 ghost use Rattle.ways.specs.Ways.{relaxed};
@@ -8,15 +8,6 @@ ghost use Rattle.sweeps.specs.Tables.{FilledTo, ForwardTable, BackwardTable};
 use super::priced::Priced;
 use tallies::heading::{Backward, Heading, Onward};
 use tallies::tally::Tally;
-
-/// Writes one value into every entry.
-fn fill<X: Copy>(out: &mut [X], value: X)
-    ensures { (q : ℕ) → slice_index_or out.new q value ≡ value }
-{
-    for entry in out.iter_mut() {
-        *entry = value;
-    }
-}
 
 /// Extends the amount at entry `from` by the price, and joins that to entry `to`.
 fn relax<T: Tally>(from: usize, to: usize, price: i64, out: &mut [T::Amount])
@@ -43,6 +34,7 @@ impl Priced<'_> {
         let place = H::place_at(places, step);
         let from = 32 * H::row_at(places, step);
         let to = 32 * H::row_at(places, step + 1);
+        // By index: a zip of arcs, marks and prices is no plainer, since its proof speaks of what three iterators have left.
         for (i, arc) in self.chart.arcs().iter().enumerate() {
             if self.standing[i] && usize::from(arc.place) == place {
                 relax::<T>(
@@ -61,12 +53,14 @@ impl Priced<'_> {
         ensures { FilledTo T.Tally self.now H.Heading (places_of self.now.chart.now) out.new }
     {
         let places = usize::from(self.chart.places());
-        fill(out, T::NO_PLAN);
+        out.fill_with(|| T::NO_PLAN);
         out[32 * H::row_at(places, 0)] = T::EMPTY_PLAN;
         for step in 0..places {
             self.cross::<T, H>(step, out);
         }
     }
+
+    // The two directions have a method each, since their contracts speak of other plans.
 
     /// Writes, for each node, the joining over all standing partial plans from the root to it.
     pub fn forward<T: Tally>(&self, out: &mut [T::Amount])

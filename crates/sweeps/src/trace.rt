@@ -18,6 +18,7 @@ impl Priced<'_> {
     {
         let whole = table[32 * (place - 1) + node];
         let arcs = self.chart.arcs();
+        // No `position`: the amounts fit only because the arc is one of the chart, which a closure over any arc does not know.
         for (i, arc) in arcs.iter().enumerate() {
             if self.standing[i]
                 && usize::from(arc.place) == place
@@ -45,6 +46,7 @@ impl Priced<'_> {
             return false;
         }
         let mut node = 0;
+        // By number: what counts the entries of the buffer counts the places of the chart too.
         for j in 0..usize::from(self.chart.places()) {
             let Some(i) = self.pick::<T>(table, j + 1, node) else {
                 return false;

@@ -1,6 +1,5 @@
 -- The table of a sweep while it is filled. Assumes nothing.
 use Rattle.std.proofs.Common.{◌≡◌, ℕ, zero, suc, ◌+◌, ◌<◌, ◌≤◌, true, false, cond, ◌≢◌, List, [], ◌∷◌, map, length, get_or, set, ℤ, pos, negsuc, nat_abs, sym, ap, ◌∙◌, subst, ⊎_elim, add-one, arith, get_or-set_other, get_or-set_same, w64, SFits, to_z, of_z}
-use Rattle.std.proofs.lemmas.List.{get_or_past}
 use Rattle.std.proofs.lemmas.Int.{to_z-of_z}
 use Rattle.std.proofs.lemmas.Bool.{cases_eq, cases_lt, ne_eqb, and_left, and_right}
 use Rattle.terms.specs.declared.arc.Arc.{Arc}
@@ -64,13 +63,6 @@ module _ {X A Y : Type 0} (t : Ghosts X A) (laws : Lawful t) (h : Directed Y) (s
       rest l v a b d = other l v b d (λ e. omega (arith, e.0))
 
   module _ (small : (a : ℕ) → nat_abs (price a) ≤ steep) where
-    pub arriving_start : (k : ℕ) (out : List A) → k < n → Filled t h n arcs s price k out → Arriving t h n arcs s price k 0 out
-    arriving_start k out l f = record {
-      done = f.done;
-      here = λ v b. f.rest (k + 1) v (omega arith) (omega arith) b;
-      rest = λ l v a b d. f.rest l v (omega arith) b d;
-    }
-
     pub arriving_all : (k i : ℕ) (out : List A) → k < n → i ≡ length arcs → Arriving t h n arcs s price k i out → Filled t h n arcs s price (k + 1) out
     arriving_all k i out l all r = record { done = done; rest = λ l v a b d. r.rest l v a b d }
       where
@@ -145,7 +137,3 @@ module _ {X A Y : Type 0} (t : Ghosts X A) (laws : Lawful t) (h : Directed Y) (s
 
           rest : (m v : ℕ) → k + 1 < m → m ≤ n → v < 32 → get_or (stepped out) (spot h n m v) t.NO_PLAN ≡ t.NO_PLAN
           rest m v a b d = other m v b d (λ e. omega (arith, e.0)) ∙ r.rest m v a b d
-
--- what is below the end holds x, and what is past it is x by default
-pub all_alike : {A : Type 0} (out : List A) (x : A) → ((q : ℕ) → q < length out → get_or out q x ≡ x) → (q : ℕ) → get_or out q x ≡ x
-all_alike out x h q = ⊎_elim (h q) (get_or_past out q x) (cases_lt q (length out))

@@ -1,8 +1,9 @@
-use Rattle.std.proofs.Common.{◌≡◌, ℕ, ◌*◌, get_or, set, sym, subst, subst₂, arith}
+use Rattle.std.proofs.Common.{rules, ◌≡◌, ℕ, ◌*◌, get_or, set, sym, subst₂, arith}
 use Rattle.charts.specs.Drafts.{places_of, arcs_of}
 use Rattle.ways.specs.Amounts.{marked, price_at}
 use Rattle.ways.specs.Ways.{spot, Filled}
 use Rattle.ways.proofs.Tables.{filled_start}
+use Rattle.sweeps.proofs.Alike.{all_given}
 use Rattle.sweeps.proofs.priced.Priced.sweep.Goals as goal
 
 pub loop-step-init : goal.loop-step-init
@@ -14,13 +15,5 @@ loop-step-init g c =
     let at : spot h n 0 0 ≡ 32 * c.row_at.result =
     let a = c.row_at.ensures in let d = c.from-places.ensures in let e = c.places.ensures.value in omega (arith, (let f : c.row_at.result ≡ h.row n 0 = cc in f))
     in
-    let blank : (q : ℕ) → get_or c.fill.new.out q t.NO_PLAN ≡ t.NO_PLAN = λ q. (subst (λ x. get_or c.fill.new.out q x ≡ x) c.NO_PLAN.ensures (c.fill.ensures q)) in
-    subst₂ (λ q x. Filled t h n arcs (marked c.args.self.now.standing.now) (price_at c.args.self.now.prices.now) 0 (set c.fill.new.out q x)) at (sym c.EMPTY_PLAN.ensures) (filled_start t g.met.T.Tally.lawful h g.met.H.Heading.lawful n c.args.self.now.chart.now.sealed.few arcs _ _ c.fill.new.out (omega arith) blank)
-
-pub returns : goal.returns
-returns g c =
-    let n = places_of c.args.self.now.chart.now in
-    let d = c.from-places.ensures in
-    let e = c.places.ensures.value in
-    let all : c.loop-step.step ≡ n = omega arith in
-    subst (λ k. Filled g.T.Tally g.H.Heading n (arcs_of c.args.self.now.chart.now) (marked c.args.self.now.standing.now) (price_at c.args.self.now.prices.now) k c.loop-step.out) all c.loop-step.invariant
+    let blank : (q : ℕ) → get_or c.fill_with.new.self q t.NO_PLAN ≡ t.NO_PLAN = all_given _ t.NO_PLAN (λ p x q r. search rules) c.fill_with.new.self _ _ c.fill_with.ensures.ran.1 in
+    subst₂ (λ q x. Filled t h n arcs (marked c.args.self.now.standing.now) (price_at c.args.self.now.prices.now) 0 (set c.fill_with.new.self q x)) at (sym c.EMPTY_PLAN.ensures) (filled_start t g.met.T.Tally.lawful h g.met.H.Heading.lawful n c.args.self.now.chart.now.sealed.few arcs _ _ c.fill_with.new.self (omega arith) blank)
