@@ -94,6 +94,7 @@ impl<'a, B: Bank> Pricing<'a, B> {
     /// The price of each standing arc of a chart, and 0 for the others.
     pub fn standing_prices(&self, chart: &Chart, standing: &[bool]) -> [i64; 1024]
         requires { length (arcs_of chart.now) ≤ length standing.now }
+        ensures long { length result ≡ 1024 }
         ensures each { (a : ℕ) → slice_index_or result a (pos 0) ≡ standing_price (B.Bank.rules self.now.bank.now) self.now.multipliers.now (arcs_of chart.now) (marked standing.now) a }
         ensures fit { Sweepable (arcs_of chart.now) standing.now result }
     {

@@ -50,6 +50,7 @@ returns g c =
     let inv = c.loop-i.invariant in
     let each = filled_in us zs arcs (marked on) (price_at prices) (λ a l. inv.done a (omega (arith, ap length items)) ∙ ap (λ (xs : List Arc). cond (marked on a) (arc_price us zs (arc_at xs a)) (pos 0)) items) (λ a h. inv.rest a (omega (arith, ap length items))) in
     record {
+      long = inv.long;
       each = each;
       fit = sweepable (places_of c.args.chart.now) arcs c.args.chart.now.sealed us zs c.args.self.now.asked (g.B.Bank.within c.args.self.now.bank.now) on c.requires prices inv.long each;
     }
