@@ -1,5 +1,5 @@
 //! What a kind of tally is.
-ghost use Rattle.std.specs.Prelude.{◌≡◌, ℕ, ◌<◌, ◌⊎◌, ◌↔◌, ℤ, IsTrue, unsigned_abs};
+ghost use Rattle.std.specs.Prelude.{◌≡◌, ℕ, ◌<◌, false, ◌⊎◌, ◌↔◌, ℤ, IsTrue, unsigned_abs};
 ghost use Rattle.tallies.specs.Laws.{TallyLaws, wide};
 
 /// A kind of tally: its sort of amount, the amounts of "no plan" and of the empty plan, the joining of two
@@ -40,8 +40,9 @@ pub trait Tally {
 pub trait Choosing: Tally {
     /// Whether the joining of two amounts is the first; if not, it is the second.
     fn first(a: Self::Amount, b: Self::Amount) -> bool
-        ensures { IsTrue result ↔ (Self.joins a b ≡ a) };
+        ensures told { IsTrue result ↔ (Self.joins a b ≡ a) }
+        ensures other { result ≡ false → Self.joins a b ≡ b };
 
-    // The joining is one of the two, whatever they are.
+    // So the joining is one of the two, whatever they are.
     ghost chooses: { (x y : Self.Amount) → (Self.joins x y ≡ x) ⊎ (Self.joins x y ≡ y) };
 }

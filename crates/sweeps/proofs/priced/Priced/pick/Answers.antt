@@ -65,7 +65,7 @@ returns-then-first g c =
     let paid = price_passed (price i) (small i) in
     let longer = c.extend-part.ensures in
     let part : c.extend-part.result ≡ after t laws n arcs all s price small k i = cc in
-    let chosen = c.first.ensures.0 c.if-first.true in
+    let chosen = c.first.ensures.told.0 c.if-first.true in
     (there, ((stands, attains_yes t laws n arcs all s price small g.met.T.Choosing.chooses k v c.requires.there c.requires.before_end i stands (cc)), c.loop-i.invariant))
 
 pub loop-i-preserved : goal.loop-i-preserved
@@ -96,7 +96,7 @@ loop-i-preserved g c =
           let longer = w.extend-part.ensures in
           let part : w.extend-part.result ≡ after t laws n arcs all s price small k i = cc in
           let back = attains_no t laws n arcs all s price small g.met.T.Choosing.chooses k v c.requires.there c.requires.before_end i a.0 a.1 in
-          both_ways w.first.result w.if-first.false (w.first.ensures.1 (cc))
+          both_ways w.first.result w.if-first.false (w.first.ensures.told.1 (cc))
       | else-self-i w ↦ elim w.else-self-i.branch [
         | else-self-i-via-then-self-i+then-from-place+else-from-node u ↦
             let f = u.from-then-from-place.ensures in let here = next_start arcs k v i both.1 in u.if-from-node.false (cc)

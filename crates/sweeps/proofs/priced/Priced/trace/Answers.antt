@@ -68,7 +68,7 @@ returns g c =
     let traced = subst (λ m. Traced t n arcs s price 1 0 (take m plan)) ended (completes_all t laws n arcs all s price small plan j (j + 1) c.loop-j.node (omega arith) c.loop-j.invariant.0) in (
       (λ none.
           let ne = laws.neutral x in
-          both_ways c.first.result c.if-first.false (c.first.ensures.1 (cc))),
+          both_ways c.first.result c.if-first.false (c.first.ensures.told.1 (cc))),
       traced,
       traced_attains t laws n arcs all s price small (take n plan) traced,
       c.loop-j.invariant.3,
