@@ -1,5 +1,5 @@
 -- The amounts of a backward sweep, level by level. Assumes nothing.
-use Rattle.std.proofs.Common.{◌≡◌, ℕ, zero, suc, ◌+◌, ◌-◌, ◌<◌, ◌≤◌, Bool, true, false, ◌&&◌, eqb, ltb, List, [], ◌∷◌, ◌++◌, length, get_or, take, set, ℤ, nat_abs, sym, refl, ap, ◌∙◌, subst, ⊎_elim, arith}
+use Rattle.std.proofs.Common.{◌≡◌, ℕ, zero, suc, ◌+◌, ◌-◌, ◌*◌, ◌<◌, ◌≤◌, Bool, true, false, ◌&&◌, eqb, ltb, List, [], ◌∷◌, ◌++◌, length, get_or, take, set, ℤ, nat_abs, sym, refl, ap, ◌∙◌, subst, ⊎_elim, arith}
 use Rattle.std.proofs.lemmas.List.{get_or_read, take_more_set, append_assoc, append-nil}
 use Rattle.std.proofs.lemmas.Bool.{lt-ltb, and_parts}
 use Rattle.terms.specs.declared.arc.Arc.{Arc}
@@ -57,6 +57,11 @@ module _ {X A : Type 0} (t : Ghosts X A) (laws : Lawful t) (n : ℕ) (arcs : Lis
       let below = node.below in
       let few = sealed.few in
       get_or_read table q x (omega arith) read t.NO_PLAN ∙ ap (λ m. get_or table m t.NO_PLAN) at ∙ filled k v node
+
+  -- and where an arc of place k ends
+  pub read_beyond : (table : List A) (k v i q : ℕ) (x : A) → Backward t n arcs s price table → length table ≡ 1056 → 1 ≤ k → next arcs k v i ≡ true → q ≡ 32 * k + (arc_at arcs i).end → x ≡ get_or table q x → x ≡ amount (suc k) (arc_at arcs i).end
+  read_beyond table k v i q x filled long low goes at read =
+      read_table table (suc k) (arc_at arcs i).end q x filled long (end_node n arcs sealed k v i low goes) (omega arith) read
 
   -- an arc from a node of level k, as a sweep takes it
   regroup : (x l p v : Bool) → l ≡ true → (x && (l && (p && v))) ≡ ((x && p) && v)

@@ -7,7 +7,7 @@ use Rattle.charts.specs.Drafts.{places_of, arcs_of}
 use Rattle.tallies.specs.Laws.{wide}
 use Rattle.ways.specs.Amounts.{marked, price_at}
 use Rattle.ways.proofs.Tables.{price_passed}
-use Rattle.ways.proofs.Levels.{end_node, after, amount_narrow, read_table, attains_yes, attains_no}
+use Rattle.ways.proofs.Levels.{end_node, after, amount_narrow, read_table, read_beyond, attains_yes, attains_no}
 use Rattle.sweeps.proofs.priced.Priced.pick.Goals as goal
 use Rattle.sweeps.proofs.priced.Priced.pick.Goals.{then-self-i+then-from-place+then-from-node+else-first, else-self-i, else-self-i-via-then-self-i+then-from-place+else-from-node, else-self-i-via-then-self-i+else-from-place, else-self-i-via-else-self-i}
 
@@ -32,7 +32,7 @@ extend-part-requires g c =
     let node = end_node n arcs whole k c.args.node i c.requires.there.low goes in
     let x = c.index-table-place-then-from-node.result in
     let entry : 32 * k + c.from-then-from-node.result ≡ 32 * k + e = let a = c.from-then-from-node.ensures in cc in
-    let read = read_table t laws n arcs whole s price small c.args.table.now (suc k) e (32 * k + c.from-then-from-node.result) x c.requires.filled c.requires.long node (omega (arith, entry)) c.index-table-place-then-from-node.is in (
+    let read = read_beyond t laws n arcs whole s price small c.args.table.now k c.args.node i (32 * k + c.from-then-from-node.result) x c.requires.filled c.requires.long c.requires.there.low goes entry c.index-table-place-then-from-node.is in (
       subst (λ y. t.size y < wide) (sym read) (amount_narrow t laws n arcs whole s price small (suc k) e node),
       rw (price_passed (price i) (small i)) (omega (arith, small i)),
     )
@@ -58,9 +58,8 @@ returns-then-first g c =
     let start : (arc_at arcs i).start ≡ v = let a = c.from-then-from-place.ensures in let b = c.if-from-node.true in cc in
     let goes = next_from arcs k v i there place start in
     let stands = and_from (s i) (next arcs k v i) c.if-self-i.true goes in
-    let node = end_node n arcs all k v i c.requires.there.low goes in
     let at : 32 * k + c.from-then-from-node.result ≡ 32 * k + e = let a = c.from-then-from-node.ensures in cc in
-    let beyond = read_table t laws n arcs all s price small table (suc k) e (32 * k + c.from-then-from-node.result) c.index-table-place-then-from-node.result c.requires.filled c.requires.long node (omega (arith, at)) c.index-table-place-then-from-node.is in
+    let beyond = read_beyond t laws n arcs all s price small table k v i (32 * k + c.from-then-from-node.result) c.index-table-place-then-from-node.result c.requires.filled c.requires.long c.requires.there.low goes at c.index-table-place-then-from-node.is in
     let whole = read_table t laws n arcs all s price small table k v (32 * (k - 1) + v) c.index-table-place.result c.requires.filled c.requires.long c.requires.there refl c.index-table-place.is in
     let paid = price_passed (price i) (small i) in
     let longer = c.extend-part.ensures in
@@ -88,9 +87,8 @@ loop-i-preserved g c =
     let both = and_parts (s i) (next arcs k v i) a.0 in
     elim c.if-self-i.branch [
       | then-self-i+then-from-place+then-from-node+else-first w ↦
-          let node = end_node n arcs all k v i c.requires.there.low both.1 in
           let at : 32 * k + w.from-then-from-node.result ≡ 32 * k + e = let f = w.from-then-from-node.ensures in cc in
-          let beyond = read_table t laws n arcs all s price small table (suc k) e (32 * k + w.from-then-from-node.result) w.index-table-place-then-from-node.result c.requires.filled c.requires.long node (omega (arith, at)) w.index-table-place-then-from-node.is in
+          let beyond = read_beyond t laws n arcs all s price small table k v i (32 * k + w.from-then-from-node.result) w.index-table-place-then-from-node.result c.requires.filled c.requires.long c.requires.there.low both.1 at w.index-table-place-then-from-node.is in
           let whole = read_table t laws n arcs all s price small table k v (32 * (k - 1) + v) c.index-table-place.result c.requires.filled c.requires.long c.requires.there refl c.index-table-place.is in
           let paid = price_passed (price i) (small i) in
           let longer = w.extend-part.ensures in
