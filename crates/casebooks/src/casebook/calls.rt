@@ -60,8 +60,8 @@ impl<B: Bank> Casebook<B> {
         ensures buffer { plan.new ≡ (on_price (problem_in B.Bank self.now) (model_in self.now) multipliers.now plan.old).left.buffer }
         ensures left { model_in self.now ≡ (on_price (problem_in B.Bank self.now) (model_in self.now) multipliers.now plan.old).left.model }
     {
-        self.desk.price_row(&self.bank, multipliers, plan)?;
-        Ok(self.desk.priced(&self.bank, multipliers, plan))
+        let pricing = self.desk.price_row(&self.bank, multipliers, plan)?;
+        Ok(self.desk.priced(&pricing, plan))
     }
 
     /// Writes the first plan that stands in the working case into the first places of the buffer, and answers whether
@@ -81,8 +81,8 @@ impl<B: Bank> Casebook<B> {
         ensures left { model_in self.new ≡ (on_strike (problem_in B.Bank self.old) (model_in self.old) multipliers.now).left }
         ensures same { problem_in B.Bank self.new ≡ problem_in B.Bank self.old }
     {
-        self.desk.strike_row(&self.bank, multipliers)?;
-        Ok(self.desk.strike(&self.bank, multipliers))
+        let pricing = self.desk.strike_row(&self.bank, multipliers)?;
+        Ok(self.desk.strike(&pricing))
     }
 
     /// Removes from the working case each arc on no standing plan. Answers how many.
@@ -102,8 +102,8 @@ impl<B: Bank> Casebook<B> {
         ensures left { model_in self.new ≡ (on_close (problem_in B.Bank self.old) (model_in self.old) multipliers.now).left }
         ensures same { problem_in B.Bank self.new ≡ problem_in B.Bank self.old }
     {
-        self.desk.strike_row(&self.bank, multipliers)?;
-        if let Some(amount) = self.desk.undercut(&self.bank, multipliers) {
+        let pricing = self.desk.strike_row(&self.bank, multipliers)?;
+        if let Some(amount) = self.desk.undercut(&pricing) {
             return Err(Refusal::NotClosed(amount));
         }
         self.desk.close();

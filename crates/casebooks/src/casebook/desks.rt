@@ -1,5 +1,6 @@
 //! The work on what a casebook has beside its bank.
 ghost use Rattle.std.specs.Prelude.{◌≡◌, ℕ, ◌<◌, ◌≤◌, false, ◌&&◌, [], ◌∷◌, length, take, None, slice_index_or};
+ghost use Rattle.std.specs.Result.{result_err};
 ghost use Rattle.plans.specs.Arcs.{Sealed};
 ghost use Rattle.plans.specs.Plans.{cost};
 ghost use Rattle.plans.specs.Cases.{every};
@@ -7,7 +8,6 @@ ghost use Rattle.charts.specs.Drafts.{places_of, arcs_of};
 ghost use Rattle.judging.specs.Cases.{inside, outside, top, under, piled};
 ghost use Rattle.judging.specs.Calls.{split_rows, judged};
 ghost use Rattle.ways.specs.Minutes.{cost_in};
-ghost use Rattle.casebooks.specs.Rows.{passed};
 ghost use Rattle.casebooks.specs.Views.{problem_of, model_of, held_of, holding, restarted};
 
 use crate::casebook::offers::cost_of;
@@ -108,7 +108,7 @@ impl Desk {
 
     /// The first row that refuses a split.
     pub fn split_row(&self, place: u64, routes: RouteSet) -> Result<(), Refusal>
-        ensures { result ≡ passed (split_rows (problem_of self.now []) (model_of self.now) place routes.bits) }
+        ensures { result_err result ≡ split_rows (problem_of self.now []) (model_of self.now) place routes.bits }
     {
         self.case_row()?;
         if place < 1 || place > u64::from(self.chart.places()) {

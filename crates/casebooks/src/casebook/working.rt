@@ -4,7 +4,6 @@ ghost use Rattle.charts.specs.Drafts.{places_of};
 ghost use Rattle.plans.specs.Firsts.{foremost, written, is_there};
 ghost use Rattle.judging.specs.Cases.{mark as mark_of, standing_in, first_plan, least, top};
 ghost use Rattle.judging.specs.Calls.{keeping, cheaply, undercut as undercut_by};
-ghost use Rattle.through.specs.Pricings.{Priceable};
 ghost use Rattle.casebooks.specs.Views.{problem_of, model_of};
 
 use crate::casebook::{Claim, Desk};
@@ -31,15 +30,13 @@ fn below(amount: Option<i64>, mark: i64) -> Option<i64>
 
 impl Desk {
     /// The least priced amount over the plans that stand in the working case; writes the first plan with that amount.
-    pub fn priced<B: Bank>(&self, bank: &B, multipliers: &[i64], plan: &mut [usize]) -> Option<i64>
-        requires asked { Priceable (B.Bank.rules bank.now) multipliers.now }
+    pub fn priced<B: Bank>(&self, pricing: &Pricing<B>, plan: &mut [usize]) -> Option<i64>
         requires some { 0 < length (model_of self.now).pile }
         requires room { places_of self.now.chart ≤ length plan.old }
-        ensures amount { result ≡ least (problem_of self.now (B.Bank.rules bank.now)) multipliers.now (top (model_of self.now).pile) }
-        ensures plan { plan.new ≡ written (first_plan (problem_of self.now (B.Bank.rules bank.now)) multipliers.now (top (model_of self.now).pile)) plan.old }
+        ensures amount { result ≡ least (problem_of self.now (B.Bank.rules pricing.now.bank.now)) pricing.now.multipliers.now (top (model_of self.now).pile) }
+        ensures plan { plan.new ≡ written (first_plan (problem_of self.now (B.Bank.rules pricing.now.bank.now)) pricing.now.multipliers.now (top (model_of self.now).pile)) plan.old }
     {
         let standing = self.working();
-        let pricing = Pricing::new(bank, multipliers);
         pricing.priced_plan(&self.chart, &standing, plan)
     }
 
@@ -55,13 +52,11 @@ impl Desk {
     }
 
     /// The least priced amount of the working case, where it is below the mark of the claim.
-    pub fn undercut<B: Bank>(&self, bank: &B, multipliers: &[i64]) -> Option<i64>
-        requires asked { Priceable (B.Bank.rules bank.now) multipliers.now }
+    pub fn undercut<B: Bank>(&self, pricing: &Pricing<B>) -> Option<i64>
         requires some { 0 < length (model_of self.now).pile }
-        ensures { result ≡ undercut_by (mark_of (model_of self.now).claimed) (least (problem_of self.now (B.Bank.rules bank.now)) multipliers.now (top (model_of self.now).pile)) }
+        ensures { result ≡ undercut_by (mark_of (model_of self.now).claimed) (least (problem_of self.now (B.Bank.rules pricing.now.bank.now)) pricing.now.multipliers.now (top (model_of self.now).pile)) }
     {
         let standing = self.working();
-        let pricing = Pricing::new(bank, multipliers);
         below(
             pricing.least_amount(&self.chart, &standing),
             self.claim.mark(),
@@ -69,15 +64,13 @@ impl Desk {
     }
 
     /// Removes from the working case each arc on no standing plan priced below the mark. Answers how many.
-    pub fn strike<B: Bank>(&mut self, bank: &B, multipliers: &[i64]) -> usize
-        requires asked { Priceable (B.Bank.rules bank.now) multipliers.now }
+    pub fn strike<B: Bank>(&mut self, pricing: &Pricing<B>) -> usize
         requires some { 0 < length (model_of self.old).pile }
         ensures chart { self.new.chart ≡ self.old.chart }
-        ensures answer { Ok result ≡ (keeping (problem_of self.old (B.Bank.rules bank.now)) (model_of self.old) (cheaply (problem_of self.old (B.Bank.rules bank.now)) (model_of self.old) multipliers.now)).answer }
-        ensures model { model_of self.new ≡ (keeping (problem_of self.old (B.Bank.rules bank.now)) (model_of self.old) (cheaply (problem_of self.old (B.Bank.rules bank.now)) (model_of self.old) multipliers.now)).left }
+        ensures answer { Ok result ≡ (keeping (problem_of self.old (B.Bank.rules pricing.now.bank.now)) (model_of self.old) (cheaply (problem_of self.old (B.Bank.rules pricing.now.bank.now)) (model_of self.old) pricing.now.multipliers.now)).answer }
+        ensures model { model_of self.new ≡ (keeping (problem_of self.old (B.Bank.rules pricing.now.bank.now)) (model_of self.old) (cheaply (problem_of self.old (B.Bank.rules pricing.now.bank.now)) (model_of self.old) pricing.now.multipliers.now)).left }
     {
         let mut standing = self.working();
-        let pricing = Pricing::new(bank, multipliers);
         let removed = pricing.strike(&self.chart, self.claim.mark(), &mut standing);
         self.keep(&standing);
         removed

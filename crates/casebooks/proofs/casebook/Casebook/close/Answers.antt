@@ -1,9 +1,0 @@
-use Rattle.casebooks.specs.Views.{problem_in, model_in}
-use Rattle.casebooks.proofs.Working.{passed_none, strike_asked}
-use Rattle.casebooks.proofs.casebook.Casebook.close.Goals as goal
-
-pub undercut-requires : goal.undercut-requires
-undercut-requires g c =
-    let s = c.args.self.now in
-    let r = strike_asked (problem_in g.B.Bank s) (model_in s) c.args.multipliers.now (passed_none _ c.in_ok-strike_row.ensures) in
-    record { asked = r.0; some = r.1 }
