@@ -4,7 +4,7 @@ ghost use Rattle.rules.specs.Rules.{no_rule};
 ghost use Rattle.amounts.specs.Multipliers.{fair as may_have, unfair, lowest};
 ghost use Rattle.through.specs.Pricings.{Matched};
 
-use rules::bank::Bank;
+use rules::bank::{Bank, head_at};
 use terms::rule::Sense;
 
 /// Whether a rule of this sense may have this multiplier.
@@ -23,7 +23,7 @@ fn has_fair<B: Bank>(bank: &B, rule: usize, multiplier: i64) -> bool
     requires there { rule < length (B.Bank.rules bank.now) }
     ensures { result ≡ may_have (get_or (B.Bank.rules bank.now) rule no_rule).sense multiplier }
 {
-    is_fair(bank.head(rule).unwrap().sense, multiplier)
+    is_fair(head_at(bank, rule).sense, multiplier)
 }
 
 /// The lowest rule whose multiplier is out of range or of the wrong sign, if there is one.

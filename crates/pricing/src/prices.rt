@@ -11,28 +11,8 @@ ghost use Rattle.through.specs.Pricings.{Priceable, Gridded, standing_price};
 use crate::Pricing;
 use crate::active::active_rules;
 use charts::chart::Chart;
-use rules::bank::Bank;
+use rules::bank::{Bank, head_at, weight_at};
 use terms::arc::Arc;
-
-/// The weight of a rule of the bank at an arc's place and route.
-fn weight_at<B: Bank>(bank: &B, rule: usize, arc: Arc) -> i64
-    requires few { length (B.Bank.rules bank.now) ≤ 128 }
-    requires there { rule < length (B.Bank.rules bank.now) }
-    requires fit { on_grid arc.place arc.route ≡ true }
-    ensures { result ≡ (get_or (B.Bank.rules bank.now) rule no_rule).weight arc.place arc.route }
-{
-    let weight = bank.weight(rule, u64::from(arc.place), u64::from(arc.route));
-    weight.unwrap()
-}
-
-/// The limit of a rule of the bank.
-fn limit_of<B: Bank>(bank: &B, rule: usize) -> i64
-    requires few { length (B.Bank.rules bank.now) ≤ 128 }
-    requires there { rule < length (B.Bank.rules bank.now) }
-    ensures { result ≡ (get_or (B.Bank.rules bank.now) rule no_rule).limit }
-{
-    bank.head(rule).unwrap().limit
-}
 
 impl<'a, B: Bank> Pricing<'a, B> {
     /// The pricing of a bank under fair multipliers.
@@ -75,7 +55,7 @@ impl<'a, B: Bank> Pricing<'a, B> {
         requires { rule < length self.now.multipliers.now }
         ensures { result ≡ owed_of (B.Bank.rules self.now.bank.now) self.now.multipliers.now rule }
     {
-        let limit = limit_of(self.bank, rule);
+        let limit = head_at(self.bank, rule).limit;
         -(self.multipliers[rule] * limit)
     }
 

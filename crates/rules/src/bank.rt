@@ -1,7 +1,8 @@
 //! What is asked of every bank of rules.
-ghost use Rattle.std.specs.Prelude.{◌≡◌, min, List};
-ghost use Rattle.rules.specs.Rules.{Rule, counted, head_of, weight_of, on_grid, InRange};
+ghost use Rattle.std.specs.Prelude.{◌≡◌, ◌<◌, min, true, List, get_or};
+ghost use Rattle.rules.specs.Rules.{Rule, no_rule, counted, head_in, head_of, weight_of, on_grid, Within, InRange};
 
+use terms::arc::Arc;
 use terms::rule::Head;
 
 /// A bank of rules. It means a list of rules; the three questions are about that list, and change nothing.
@@ -37,4 +38,24 @@ pub fn on_grid(place: u64, route: u64) -> bool
     ensures { result ≡ on_grid place route }
 {
     1 <= place && place <= 32 && route <= 63
+}
+
+/// The head of a rule that the bank has.
+pub fn head_at<B: Bank>(bank: &B, rule: usize) -> Head
+    requires { rule < counted (B.Bank.rules bank.now) }
+    ensures value { result ≡ head_in (get_or (B.Bank.rules bank.now) rule no_rule) }
+    ensures small { Within 1000000 result.limit }
+{
+    bank.head(rule).unwrap()
+}
+
+/// The weight of a rule that the bank has, at an arc's place and route.
+pub fn weight_at<B: Bank>(bank: &B, rule: usize, arc: Arc) -> i64
+    requires there { rule < counted (B.Bank.rules bank.now) }
+    requires fit { on_grid arc.place arc.route ≡ true }
+    ensures value { result ≡ (get_or (B.Bank.rules bank.now) rule no_rule).weight arc.place arc.route }
+    ensures small { Within 10000 result }
+{
+    let weight = bank.weight(rule, u64::from(arc.place), u64::from(arc.route));
+    weight.unwrap()
 }

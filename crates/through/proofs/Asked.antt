@@ -1,6 +1,6 @@
 -- The parts that a rule has in prices, as code forms them. Assumes nothing.
 use Rattle.std.proofs.Common.{◌≡◌, ℕ, ◌<◌, ◌≤◌, true, List, length, get_or, ℤ, pos, ◌-ℤ◌, ◌*ℤ◌, neg_ℤ, nat_abs, ap, ◌∙◌, arith, w64, SFits}
-use Rattle.rules.specs.Rules.{Rule, no_rule, InRange, on_grid}
+use Rattle.rules.specs.Rules.{Rule, no_rule, counted, InRange, on_grid}
 use Rattle.amounts.specs.Sums.{worth_of, owed_of}
 use Rattle.amounts.proofs.Lowest.{fair_length}
 use Rattle.amounts.proofs.Sizes.{within_size, multiplier_size}
@@ -12,6 +12,10 @@ module _ (us : List Rule) (zs : List ℤ) (asked : Priceable us zs) where
   -- a multiplier's rule is there
   pub rule_there : (r : ℕ) → r < length zs → r < length us
   rule_there r l = omega (arith, fair_length us zs asked.fair)
+
+  -- and below the count
+  pub rule_counted : (r : ℕ) → r < length zs → r < counted us
+  rule_counted r l = omega (arith, rule_there r l, asked.few)
 
   module _ (range : InRange us) (r : ℕ) (l : r < length zs) where
     -- the multiplier

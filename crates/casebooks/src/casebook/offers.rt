@@ -9,7 +9,7 @@ ghost use Rattle.amounts.specs.Multipliers.{lowest};
 ghost use Rattle.judging.specs.Calls.{stray as stray_in, broken};
 
 use charts::chart::Chart;
-use rules::bank::Bank;
+use rules::bank::{Bank, head_at, weight_at};
 use terms::rule::Sense;
 
 /// The minutes of an arc, and 0 for a number that no arc has.
@@ -48,23 +48,6 @@ pub fn stray(chart: &Chart, offered: &[usize]) -> Option<u8>
     None
 }
 
-/// The weight of a rule at an arc.
-fn weight_at<B: Bank>(bank: &B, rule: usize, chart: &Chart, number: usize) -> i64
-    requires there { number < length (arcs_of chart.now) }
-    requires counted { rule < counted_of (B.Bank.rules bank.now) }
-    ensures value { result ≡ (get_or (B.Bank.rules bank.now) rule no_rule).weight (arc_at (arcs_of chart.now) number).place (arc_at (arcs_of chart.now) number).route }
-    ensures small { unsigned_abs result ≤ 10000 }
-{
-    let _ = chart.places();
-    let Some(arc) = chart.arc(number) else {
-        return 0;
-    };
-    let Some(weight) = bank.weight(rule, u64::from(arc.place), u64::from(arc.route)) else {
-        return 0;
-    };
-    weight
-}
-
 /// Whether a total meets a sense.
 fn meets(sense: Sense, total: i64) -> bool
     ensures { result ≡ meets_in sense total }
@@ -85,6 +68,16 @@ pub struct Offered<'a> {
 }
 
 impl Offered<'_> {
+    /// The weight of a rule at an arc of the plan.
+    fn weight_at<B: Bank>(self, bank: &B, rule: usize, number: usize) -> i64
+        requires there { number < length (arcs_of self.chart.now) }
+        requires counted { rule < counted_of (B.Bank.rules bank.now) }
+        ensures value { result ≡ (get_or (B.Bank.rules bank.now) rule no_rule).weight (arc_at (arcs_of self.entry.chart.now) number).place (arc_at (arcs_of self.entry.chart.now) number).route }
+        ensures small { unsigned_abs result ≤ 10000 }
+    {
+        weight_at(bank, rule, self.chart.arc(number).unwrap())
+    }
+
     /// The sum of a rule's weights on the plan.
     fn weigh<B: Bank>(self, bank: &B, rule: usize) -> i64
         requires { rule < counted_of (B.Bank.rules bank.now) }
@@ -93,7 +86,7 @@ impl Offered<'_> {
     {
         let mut sum = 0;
         for number in self.plan {
-            sum += weight_at(bank, rule, self.chart, *number);
+            sum += self.weight_at(bank, rule, *number);
         }
         sum
     }
@@ -103,9 +96,7 @@ impl Offered<'_> {
         requires { rule < counted_of (B.Bank.rules bank.now) }
         ensures { result ≡ not (holds (arcs_of self.entry.chart.now) self.entry.plan.now (slice_index_or (B.Bank.rules bank.now) rule no_rule)) }
     {
-        let Some(head) = bank.head(rule) else {
-            return false;
-        };
+        let head = head_at(bank, rule);
         !meets(head.sense, self.weigh(bank, rule) - head.limit)
     }
 
