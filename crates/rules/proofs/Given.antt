@@ -1,17 +1,8 @@
 -- What a bank shows of its list of rules for its answers, and what a caller learns of an answer. Assumes nothing.
-use Rattle.std.proofs.Common.{◌≡◌, ℕ, ◌<◌, ◌≤◌, Bool, true, false, cond, ◌&&◌, ltb, leb, List, length, get_or, ℤ, Some, None, refl, subst, arith}
+use Rattle.std.proofs.Common.{◌≡◌, ℕ, ◌<◌, ◌≤◌, Bool, true, false, cond, ◌&&◌, ltb, leb, List, get_or, ℤ, Some, None, refl, arith}
 use Rattle.std.proofs.lemmas.Bool.Decides.{nat_tests}
-use Rattle.std.proofs.lemmas.Bool.{ltb-true, ltb-false, leb-true, lt-ltb, and_parts}
-use Rattle.terms.specs.declared.rule.Head.{Head}
-use Rattle.rules.specs.Rules.{Rule, no_rule, counted, head_in, head_of, on_grid, weight_of, Within, InRange}
-
--- a rule not below the count has no head
-pub no_head : (rs : List Rule) (r : ℕ) → counted rs ≤ r → None ≡ head_of rs r
-no_head rs r h = grind (arith, nat_tests)
-
--- a rule not below the count has no weight, nor has any rule off the grid
-pub no_weight : (rs : List Rule) (r place route : ℕ) → (ltb r (counted rs) && on_grid place route) ≡ false → None ≡ weight_of rs r place route
-no_weight rs r place route e = rw e
+use Rattle.std.proofs.lemmas.Bool.{ltb-true, leb-true, lt-ltb, and_parts}
+use Rattle.rules.specs.Rules.{Rule, no_rule, counted, head_in, head_of, on_grid, weight_of}
 
 -- a rule u below the count has its head
 pub some_head : (rs : List Rule) (r : ℕ) (u : Rule) → r < counted rs → get_or rs r no_rule ≡ u → Some (head_in u) ≡ head_of rs r
@@ -37,16 +28,6 @@ from_some : {X : Type 0} (b : Bool) (x y : X) → Some x ≡ cond b (Some y) Non
 from_some true x y e = (refl, cc)
 from_some false x y e = let z : ◌≡◌ {A = ℕ} 0 1 = cc in absurd (omega arith)
 
--- what stands behind an answer that is not there
-from_none : {X : Type 0} (b : Bool) (y : X) → None ≡ cond b (Some y) None → b ≡ false
-from_none true y e = let z : ◌≡◌ {A = ℕ} 0 1 = cc in absurd (omega arith)
-from_none false y e = refl
-
--- of a head that is there: the rule is below the count, and the head is its own
-pub head_known : (rs : List Rule) (r : ℕ) (h : Head) → Some h ≡ head_of rs r → (r < counted rs) × (head_in (get_or rs r no_rule) ≡ h)
-head_known rs r h e =
-    let k = from_some (ltb r (counted rs)) h (head_in (get_or rs r no_rule)) e in (ltb-true r (counted rs) k.0, k.1)
-
 -- of a weight that is there: the rule is below the count, place and route are on the grid, and the weight is the rule's own
 pub record WeightKnown (rs : List Rule) (r place route : ℕ) (w : ℤ) : Type 0 where
   pub there : r < counted rs
@@ -59,31 +40,3 @@ weight_known rs r place route w e =
     let k = from_some (ltb r (counted rs) && on_grid place route) w ((get_or rs r no_rule).weight place route) e in
     let p = and_parts (ltb r (counted rs)) (on_grid place route) k.0 in
     record { there = ltb-true r (counted rs) p.0; grid = p.1; value = k.1 }
-
--- of a head that is not there: the rule is not below the count
-pub head_missing : (rs : List Rule) (r : ℕ) → None ≡ head_of rs r → counted rs ≤ r
-head_missing rs r e = ltb-false r (counted rs) (from_none (ltb r (counted rs)) (head_in (get_or rs r no_rule)) e)
-
--- of a weight that is not there: the rule is not below the count, or off the grid
-pub weight_missing : (rs : List Rule) (r place route : ℕ) → None ≡ weight_of rs r place route → (ltb r (counted rs) && on_grid place route) ≡ false
-weight_missing rs r place route e = from_none (ltb r (counted rs) && on_grid place route) ((get_or rs r no_rule).weight place route) e
-
--- a count of at most 128 is the number of rules
-pub counted_all : (rs : List Rule) → counted rs ≤ 128 → counted rs ≡ length rs
-counted_all rs h = omega arith
-
--- a rule below the count is one of the list
-pub counted_there : (rs : List Rule) (r : ℕ) → r < counted rs → r < length rs
-counted_there rs r h = omega arith
-
--- a limit that is there is in its range
-pub limit_within : (rs : List Rule) (r : ℕ) (h : Head) → InRange rs → Some h ≡ head_of rs r → Within 1000000 h.limit
-limit_within rs r h range e =
-    let k = head_known rs r h e in
-    subst (λ (x : Head). Within 1000000 x.limit) k.1 (range r (counted_there rs r k.0)).limit
-
--- a weight that is there is in its range
-pub weight_within : (rs : List Rule) (r place route : ℕ) (w : ℤ) → InRange rs → Some w ≡ weight_of rs r place route → Within 10000 w
-weight_within rs r place route w range e =
-    let k = weight_known rs r place route w e in
-    subst (Within 10000) k.value ((range r (counted_there rs r k.there)).weight place route k.grid)

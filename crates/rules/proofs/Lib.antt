@@ -2,4 +2,3 @@ pub mod Given
 pub mod Each
 pub mod Rising
 pub mod Orders
-pub mod Joins

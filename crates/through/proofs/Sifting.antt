@@ -1,12 +1,8 @@
 -- Marks that are taken away one by one, and how many. Assumes nothing.
-use Rattle.std.proofs.Common.{◌≡◌, ℕ, suc, ◌+◌, ◌<◌, Bool, true, false, cond, not, ◌&&◌, ◌≢◌, List, length, set, refl, sym, ap, ◌∙◌, add-one, arith, get_or-set_other, get_or-set_same, below_more}
+use Rattle.std.proofs.Common.{◌≡◌, ℕ, suc, ◌+◌, ◌<◌, Bool, true, false, cond, not, ◌&&◌, ◌≢◌, List, length, set, sym, ap, ◌∙◌, add-one, arith, get_or-set_other, get_or-set_same, below_more}
 use Rattle.plans.specs.Cases.{Case, size}
 use Rattle.ways.specs.Amounts.{marked}
 use Rattle.through.specs.Keeping.{Sifted}
-
--- before any arc nothing is taken away
-pub sifted_none : (keep : Case) (old : List Bool) → Sifted keep 0 old old 0
-sifted_none keep old = record { marks = λ a l. absurd (omega (arith, l)); rest = λ a l. refl; answer = refl }
 
 module _ (keep : Case) (old cur : List Bool) (i count : ℕ) (t : Sifted keep i old cur count) where
   -- the count with one more arc

@@ -1,5 +1,4 @@
 use Rattle.std.proofs.Common.{rules}
-use Rattle.std.proofs.lemmas.Nat.{ones-le}
 use Rattle.terms.proofs.Members.{ones_length}
 use Rattle.terms.proofs.routes.RouteSet.len.Goals as goal
 
