@@ -1,8 +1,7 @@
 -- What a form is answered after the seal, from what its call answers. Assumes nothing.
-use Rattle.std.proofs.Common.{◌≡◌, ℕ, ◌≤◌, Bool, ltb, ◌⊎◌, List, length, take, ℤ, Some, None, Ok, Err, Option, Result, sym, ap, ◌∙◌, subst, ap₂, inl, inr, arith, length-take}
+use Rattle.std.proofs.Common.{◌≡◌, ℕ, ◌≤◌, Bool, ltb, List, length, take, ℤ, Some, None, Ok, Err, Option, Result, sym, ap, ◌∙◌, inl, inr, arith, length-take}
 use Rattle.std.proofs.lemmas.List.{take_all}
 use Rattle.std.proofs.lemmas.Bool.{cases_Bool, cases_lt, ne_eqb}
-use Rattle.terms.specs.declared.arc.NewArc.{NewArc}
 use Rattle.terms.specs.declared.refusal.Refusal.{Refusal}
 use Rattle.terms.specs.declared.refusal.Refusal.TheVariants.{RouteRange, OfferLength}
 use Rattle.terms.specs.declared.routes.RouteSet.{RouteSet}
@@ -10,18 +9,14 @@ use Rattle.terms.specs.Refusals.{when, or_else, Outcome, decided}
 use Rattle.rules.specs.Rules.{counted}
 use Rattle.rules.specs.Lawful.{Problem}
 use Rattle.judging.specs.Cases.{Model}
-use Rattle.judging.specs.Calls.{on_sample, on_split, on_offer, too_many_rules}
-use Rattle.lines.specs.declared.form.Form.{Form as Read}
-use Rattle.lines.specs.declared.form.Form.TheVariants as read
-use Rattle.lines.specs.declared.form.Items.{Items}
-use Rattle.lines.specs.Forms.{Form, Sample, Split, Offer}
-use Rattle.lines.specs.Readings.{Means}
+use Rattle.judging.specs.Calls.{on_split, on_offer, too_many_rules}
+use Rattle.lines.specs.Forms.{Split, Offer}
 use Rattle.std.specs.List.{list_any}
 use Rattle.unsealed.specs.Items.{no_route, set_of, as_set, routes_read}
 use Rattle.arrayvec.specs.ArrayVec.{ArrayVec}
-use Rattle.dossiers.specs.Tolds.{Told, count_told, plan_told}
+use Rattle.dossiers.specs.Tolds.{Told, count_told}
 use Rattle.dossiers.specs.Namings.{named, naming_causes, ReadAs}
-use Rattle.dossiers.specs.Works.{buffer, naming, counting, not_here, on_work}
+use Rattle.dossiers.specs.Works.{naming, counting, on_work}
 use Rattle.dossiers.proofs.Namings.{capped_causes, few_rules}
 
 -- a line is told r, and m is left, as an outcome has it
@@ -60,11 +55,6 @@ with_routes t m place qs s e f a l =
     never : ◌≡◌ {A = Result RouteSet Refusal} (Ok s) (Err RouteRange) → ⊥
     never p = let z : ◌≡◌ {A = ℕ} 0 1 = cc in omega arith
 
--- where a sample was written into the buffer, it is told by its first arcs
-pub with_sample : (t : Problem) (m : Model) (plan : List ℕ) {r : Result Bool Refusal} {told : Result Told Refusal} {left : Model}
-    → told ≡ plan_told (take t.places plan) r → r ≡ (on_sample t m buffer).answer → plan ≡ (on_sample t m buffer).left.buffer → left ≡ (on_sample t m buffer).left.model → Made (on_work t m Sample) told left
-with_sample t m plan f a p l = record { reply = f ∙ ap₂ (λ (x : List ℕ) (q : Result Bool Refusal). plan_told (take t.places x) q) p a; left = l }
-
 -- an offer of another length than the chart has places is refused for its length, unless the bank has too many rules
 wrong_length_lem : (t : Problem) (m : Model) (p : List ℕ) → (length p ≡ t.places → ⊥) → on_offer t m p ≡ decided m (or_else (too_many_rules t) (Some OfferLength)) (record { answer = Ok 0; left = m })
 wrong_length_lem t m p ne =
@@ -88,19 +78,3 @@ pub with_arcs : (t : Problem) (m : Model) (arcs read : List ℕ) (n : ℕ) {r : 
 with_arcs t m arcs read n k few e f a l =
     let whole : counting (on_offer t m read) ≡ counting (on_offer t m arcs) = ap counting (ap (λ (p : List ℕ). on_offer t m p) e ∙ first_arcs t m arcs (omega (arith, k, few))) in
     made_by whole (record { reply = f ∙ ap count_told a; left = l })
-
--- g is a form that drafts
-abbrev Drafts : Read → Type 0
-Drafts g =
-    (g ≡ read.Casebook) ⊎ (((n : ℕ) × (g ≡ read.Places n)) ⊎ (((x : NewArc) × (g ≡ read.Arc x)) ⊎ (((c : Items ℕ) × (g ≡ read.Once c))
-    ⊎ (((a : ℕ) × (b : ℕ) × (g ≡ read.Order a b)) ⊎ (((z : ℤ) × (c : Items (ℕ × ℕ × ℤ)) × (g ≡ read.Budget z c)) ⊎ (g ≡ read.Seal))))))
-
--- no such form is allowed after the seal
-pub drafting_form : (t : Problem) (m : Model) (g : Read) (f : Form) → Means g f → Drafts g → on_work t m f ≡ not_here m
-drafting_form t m g f h (inl e) = ap (on_work t m) (subst (λ (r : Read). Means r f) e h)
-drafting_form t m g f h (inr (inl (n, e))) = ap (on_work t m) (subst (λ (r : Read). Means r f) e h)
-drafting_form t m g f h (inr (inr (inl (x, e)))) = ap (on_work t m) (subst (λ (r : Read). Means r f) e h)
-drafting_form t m g f h (inr (inr (inr (inl (c, e))))) = ap (on_work t m) (subst (λ (r : Read). Means r f) e h).2
-drafting_form t m g f h (inr (inr (inr (inr (inl (a, b, e)))))) = ap (on_work t m) (subst (λ (r : Read). Means r f) e h)
-drafting_form t m g f h (inr (inr (inr (inr (inr (inl (z, c, e))))))) = ap (on_work t m) (subst (λ (r : Read). Means r f) e h).2
-drafting_form t m g f h (inr (inr (inr (inr (inr (inr e)))))) = ap (on_work t m) (subst (λ (r : Read). Means r f) e h)

@@ -1,4 +1,3 @@
 pub mod Sets
-pub mod Entries
 pub mod Sealing
 pub mod Meant

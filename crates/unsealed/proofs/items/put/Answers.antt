@@ -1,6 +1,0 @@
-use Rattle.std.proofs.Common.{sym, arith}
-use Rattle.std.proofs.lemmas.List.{set_past}
-use Rattle.unsealed.proofs.items.put.Goals as goal
-
-pub returns-else-at-table : goal.returns-else-at-table
-returns-else-at-table c = sym (set_past c.args.table.now c.args.at c.args.value (omega arith))
