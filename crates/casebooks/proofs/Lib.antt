@@ -1,2 +1,3 @@
 pub mod Offers
+pub mod Reached
 pub mod Working

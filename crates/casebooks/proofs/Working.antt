@@ -8,7 +8,7 @@ use Rattle.ways.specs.Amounts.{marked}
 use Rattle.rules.specs.Rules.{Rule}
 use Rattle.judging.specs.Calls.{too_many_rules}
 use Rattle.judging.proofs.Rows.{when_none}
-use Rattle.casebooks.specs.Views.{rules_alone}
+use Rattle.casebooks.specs.Desks.{rules_alone}
 
 -- marks that tell of each arc whether it is in a case are that case
 pub same_case : (r : List Bool) (s : Case) → ((a : ℕ) → get_or r a false ≡ s a) → marked r ≡ s

@@ -1,46 +1,20 @@
 //! A casebook.
 //!
-//! The calls stand in modules below: a definition that names these structs cannot be cited in the file that declares
-//! their ghost fields.
-ghost use Rattle.std.specs.Prelude.{◌≡◌, ◌≤◌, length};
+//! The calls stand in a module below: a definition that names the struct cannot be cited in the file that declares its
+//! ghost field.
+ghost use Rattle.casebooks.specs.Desks.{problem_of, model_of};
+ghost use Rattle.casebooks.specs.Reached.{Reached};
 
-use charts::chart::Chart;
-use piles::pile::Pile;
+use crate::desk::Desk;
 use rules::bank::Bank;
 
 mod calls;
-mod desks;
-mod offers;
-mod rows;
-mod working;
-
-/// The plan of the offer accepted last, in the first places of the array: as many as the chart has, so no length stands
-/// beside it.
-#[derive(Clone, Copy)]
-pub struct HeldPlan {
-    at: [usize; 32],
-    ghost long: { length at ≡ 32 },
-}
-
-/// A claim: that no lawful plan takes fewer minutes.
-#[derive(Clone, Copy)]
-pub struct Claim {
-    minutes: u32,
-    ghost modest: { minutes ≤ 1_000_000 },
-}
-
-/// What a casebook has beside its bank.
-#[derive(Drop)]
-pub struct Desk {
-    chart: Chart,
-    claim: Claim,
-    pile: Pile,
-    held: Option<HeldPlan>,
-}
 
 /// A casebook: what is judged, and how far the judging has come.
 #[derive(Drop)]
 pub struct Casebook<B: Bank> {
     desk: Desk,
     bank: B,
+    // some list of calls led here from a casebook as opened
+    ghost reached: { ∥ Reached (problem_of desk (B.Bank.rules bank)) (model_of desk) ∥₁ },
 }

@@ -2,3 +2,4 @@
 #![tactic(auto)]
 
 pub mod casebook;
+pub mod desk;

@@ -23,7 +23,7 @@ pub data Stage : Type 0 where
   Works : Problem → Model → Stage
 
 -- a casebook in the place of a dossier after the seal
-abbrev pub stage_of : {B : Type 0} → Ghosts B → Casebook B → Stage
+abbrev pub stage_of : {B : Type 0} → (bank : Ghosts B) → Casebook B bank → Stage
 stage_of bank k = Works (problem_in bank k) (model_in k)
 
 -- a dossier of which nothing was read

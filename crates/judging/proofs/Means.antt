@@ -8,7 +8,8 @@ use Rattle.judging.proofs.Sound.{Safe, opened_safe, run_safe}
 use Rattle.judging.proofs.Verdicts.{confirmed, best, refuted, refutable}
 use Rattle.judging.proofs.Finish.{confirmable}
 
-meant : (t : Problem) → Posed t → (m : Model) → Safe t m → Meant t m
+-- where that holds, the verdict means what is said
+pub meant : (t : Problem) → Posed t → (m : Model) → Safe t m → Meant t m
 meant t posed m s = record {
   confirmed = confirmed t m s;
   best = best t m s;

@@ -7,7 +7,8 @@ ghost use Rattle.judging.specs.Calls.{on_claim, on_price, on_sample, on_strike, 
 ghost use Rattle.judging.specs.Theorem.{Recalled, Meant};
 ghost use Rattle.casebooks.specs.Views.{problem_in, model_in};
 
-use crate::casebook::{Casebook, Desk};
+use crate::casebook::Casebook;
+use crate::desk::Desk;
 use charts::chart::Chart;
 use rules::bank::Bank;
 use terms::refusal::Refusal;
@@ -137,9 +138,9 @@ impl<B: Bank> Casebook<B> {
     pub fn verdict(&self) -> Verdict
         ensures value { result ≡ verdict_of (problem_in B.Bank self.now) (model_in self.now) }
         ensures theorem { let t = problem_in B.Bank self.now in (calls : List Call) → Recalled t calls × Meant t (run t calls (opened t)) }
+        ensures meant { Meant (problem_in B.Bank self.now) (model_in self.now) }
         ensures here { let t = problem_in B.Bank self.now in (calls : List Call) → model_in self.now ≡ run t calls (opened t) → Meant t (model_in self.now) }
     {
-        let _ = self.desk.sealed();
         self.desk.verdict()
     }
 }
