@@ -1,5 +1,5 @@
 -- What is known wherever calls lead. Assumes nothing.
-use Rattle.std.proofs.Common.{◌≡◌, ℕ, suc, true, List, [], ◌∷◌, ◌++◌, length, sym, refl, ◌∙◌, subst}
+use Rattle.std.proofs.Common.{◌≡◌, ℕ, suc, true, List, [], ◌∷◌, ◌++◌, length, sym, ap, ◌∙◌, subst}
 use mathlib.Core.Bool.{Bool-set}
 use mathlib.Core.HLevel.{Π_prop, →_prop, ×_prop, Unit-prop}
 use mathlib.Core.Logic.{∥∥₁_elim, ∥∥₁_prop}
@@ -23,7 +23,7 @@ pub one_more : (t u : Problem) (m n : Model) (c : Call) → u ≡ t → n ≡ af
 one_more t u m n c same left r = subst (λ p. ∥ Reached p n ∥₁) (sym same) (∥∥₁_elim r ∥∥₁_prop (λ x. ∣ more x ∣₁))
   where
     more : Reached t m → Reached t n
-    more x = (x.0 ++ c ∷ [], left ∙ subst (λ k. after t m c ≡ after t k c) x.1 refl ∙ sym (run_both t x.0 (c ∷ []) (opened t)))
+    more x = (x.0 ++ c ∷ [], left ∙ ap (λ (k : Model). after t k c) x.1 ∙ sym (run_both t x.0 (c ∷ []) (opened t)))
 
 -- What holds after any calls has one proof at most.
 
