@@ -80,7 +80,6 @@ fn offer<B: Bank>(book: &mut Casebook<B>, items: NumberItems) -> Result<Answer, 
     ensures left { (arcs : List ℕ) → HoldsNumbers arcs items.entry → model_in book.new ≡ (on_work (problem_in B.Bank book.old) (model_in book.old) (Offer arcs)).left }
     ensures same { problem_in B.Bank book.new ≡ problem_in B.Bank book.old }
 {
-    let _ = book.places();
     let arcs = offered(items);
     book.offer(&arcs).map(|cost| Answer::Count(cost as usize))
 }
