@@ -17,7 +17,6 @@ mod working;
 #[derive(Clone, Copy)]
 pub struct HeldPlan {
     at: [usize; 32],
-    ghost long: { length at ≡ 32 },
 }
 
 /// A claim: that no lawful plan takes fewer minutes.
