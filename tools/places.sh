@@ -13,7 +13,7 @@ row 'an own enum with a case for nothing or for a refusal' '^ *(Neither|Refused\
 row 'a flag beside a value' 'begun: bool,|over: bool,|let mut (found|outside|all) = (true|false)|-> io::Result<bool>'
 row 'a number or a character that stands for nothing' "'.0'|=> \(0, 0\)"
 echo 'Point 3'
-row 'for over numbers' 'for [a-z_]+ in [0-9a-zA-Z_:]+\.\.'
+row 'for over numbers' 'for [a-z_]+ in [0-9a-zA-Z_:.]+\.\.'
 row 'while and loop' '^ *(while .*|loop) \{'
 echo 'Point 4'
 row 'a cast to a wider type by as' ' as (usize|u64|i64)\b'

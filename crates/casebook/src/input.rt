@@ -11,7 +11,8 @@ const CHUNK: usize = 8192;
 const KEPT: usize = 4097;
 
 /// An input line by line: a chunk that was read, of which the bytes from `at` to `filled` were not looked at yet, and the
-/// line so far, of which at most the first 4,097 bytes are kept.
+/// line so far, of which at most the first 4,097 bytes are kept. The chunk is an array with two numbers beside it, since an
+/// input fills a whole slice and says how much; std's buffered reader allocates.
 #[derive(Drop)]
 pub struct Lines<R> {
     input: R,
@@ -36,6 +37,7 @@ impl<R: Read> Lines<R> {
 
     /// Takes the rest of the line from the chunk; answers whether the line ended.
     fn advance(&mut self) -> bool {
+        // By number: where a line ends in the chunk is where the next one begins.
         for at in self.at..self.filled {
             self.at = at + 1;
             let b = self.chunk[at];
@@ -50,6 +52,7 @@ impl<R: Read> Lines<R> {
     /// The next line, if there is one. What was written is flushed before input is waited for.
     pub fn next(&mut self, out: &mut impl Write) -> io::Result<Option<&[u8]>> {
         self.line.clear();
+        // A loop over input to its end is written with a count.
         for _ in 0..u64::MAX {
             if self.advance() {
                 return Ok(Some(&self.line));

@@ -19,7 +19,8 @@ pub struct HeldPlan {
     at: [usize; 32],
 }
 
-/// A claim: that no lawful plan takes fewer minutes.
+/// A claim: that no lawful plan takes fewer minutes. It is a struct of its own: with its fact on the desk, the calls that lend
+/// the chart while the pile changes got no proof.
 #[derive(Clone, Copy)]
 pub struct Claim {
     minutes: u32,

@@ -10,7 +10,7 @@ use terms::arc::Arc;
 mod drafts;
 mod sealed;
 
-/// A table of arcs, of which the first `count` are in use.
+/// A table of arcs, of which the first `count` are in use. It is a plain array, as each table of 1,024 is: memory is fixed.
 #[derive(Drop)]
 pub struct ArcTable {
     pub at: [Arc; 1024],

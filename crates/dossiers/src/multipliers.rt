@@ -18,6 +18,7 @@ pub fn named(items: PairItems, count: usize) -> Result<ArrayVec<i64, 128>, Refus
     let mut multipliers = ArrayVec::from([0; 128]);
     multipliers.truncate(count);
     for (rule, multiplier) in items {
+        // There is no `From` of `u64` for `usize`.
         let rule = rule as usize;
         if rule >= multipliers.len() {
             return Err(Refusal::MultiplierCount);

@@ -14,6 +14,7 @@ pub fn offered(items: NumberItems) -> ArrayVec<usize, 33>
         if offered.is_full() {
             break;
         }
+        // There is no `From` of `u64` for `usize`.
         offered.push(arc as usize);
     }
     offered

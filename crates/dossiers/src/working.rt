@@ -81,6 +81,7 @@ fn offer<B: Bank>(book: &mut Casebook<B>, items: NumberItems) -> Result<Answer, 
     ensures same { problem_in B.Bank book.new ≡ problem_in B.Bank book.old }
 {
     let arcs = offered(items);
+    // There is no `From` of `u32` for `usize`.
     book.offer(&arcs).map(|cost| Answer::Count(cost as usize))
 }
 

@@ -55,7 +55,7 @@ fn report_plan(rt: &impl Print, plan: [usize; 2], expected: [usize; 2]) -> io::R
     Ok(())
 }
 
-/// An arc from node 0 to node 0.
+/// An arc from node 0 to node 0. Other samples have such a helper too: each is a text that is read by itself.
 fn straight(place: u64, route: u64, minutes: u64) -> NewArc {
     NewArc {
         place,

@@ -32,6 +32,7 @@ impl From<Result<usize, Refusal>> for Reply {
 /// Of the number of places.
 impl From<Result<u64, Refusal>> for Reply {
     fn from(res: Result<u64, Refusal>) -> Reply {
+        // There is no `From` of `u64` for `usize`.
         Reply(res.map(|places| Answer::Number(places as usize)))
     }
 }
@@ -39,6 +40,7 @@ impl From<Result<u64, Refusal>> for Reply {
 /// Of an offer.
 impl From<Result<u32, Refusal>> for Reply {
     fn from(res: Result<u32, Refusal>) -> Reply {
+        // There is no `From` of `u32` for `usize`.
         Reply(res.map(|minutes| Answer::Number(minutes as usize)))
     }
 }

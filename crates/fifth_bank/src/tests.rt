@@ -11,6 +11,7 @@ use terms::verdict::Verdict;
 
 const BANK: NotBefore = NotBefore { route: 1, place: 2 };
 
+/// An arc from node 0 to node 0. The samples have such a helper too: each is a text that is read by itself.
 fn straight(place: u64, route: u64, minutes: u64) -> NewArc {
     NewArc {
         place,

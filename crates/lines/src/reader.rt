@@ -50,7 +50,8 @@ impl Reader<'_> {
         }
     }
 
-    /// Passes the character `want`.
+    /// Passes the character `want`. Where it is not there, the reader stands before the byte that is impossible; an error would
+    /// have no more to say than `None`.
     fn pass(&mut self, want: char) -> Option<()>
         requires { 0 < want }
         ensures { Passes want self.old.rest.now result self.new.rest.now }
@@ -90,6 +91,7 @@ impl Reader<'_> {
         ensures { Counts self.old.rest.now result self.new.rest.now }
     {
         let mut n = self.digit()?;
+        // Until the digits say stop: no index is counted.
         while grows(n) {
             let Some(d) = self.digit() else {
                 return Some(n);
@@ -116,6 +118,7 @@ impl Reader<'_> {
     fn signed(&mut self) -> Option<i64>
         ensures { Takes signed_decimal ShortZ TightZ self.old.rest.now result self.new.rest.now }
     {
+        // A number of ten digits fits; there is no `From` of `u64` for `i64`.
         match self.peek()? {
             '-' => {
                 self.skip();

@@ -18,7 +18,7 @@ pub struct Arcs<'a> {
     ghost few: { length all.now ≤ 1024 },
 }
 
-/// For each arc the height at which it left, or 0.
+/// For each arc the height at which it left, or 0. It is a plain array, as each table of 1,024 is: memory is fixed.
 #[derive(Drop)]
 pub struct Marks {
     pub at: [u16; 1024],
@@ -38,14 +38,15 @@ pub enum Side {
     Outside,
 }
 
-/// A table of split records, one for each height below the top, of which `count` counts the cases open.
+/// A table of split records, one for each height below the top, of which `count` counts the cases open: no vector, since
+/// the top is no record yet.
 #[derive(Drop)]
 pub struct SplitTable {
     pub at: [Split; 1024],
     pub count: usize,
 }
 
-/// The open cases.
+/// The open cases. No `impl Model`: a case is a function, which has no code.
 #[derive(Drop)]
 pub struct Pile {
     marks: Marks,

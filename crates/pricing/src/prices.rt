@@ -78,6 +78,7 @@ impl<'a, B: Bank> Pricing<'a, B> {
         ensures each { (a : ℕ) → slice_index_or result a (pos 0) ≡ standing_price (B.Bank.rules self.now.bank.now) self.now.multipliers.now (arcs_of chart.now) (marked standing.now) a }
         ensures fit { Sweepable (arcs_of chart.now) standing.now result }
     {
+        // An array, as long as any list of arcs: memory is fixed.
         let mut prices = [0; 1024];
         for (i, arc) in chart.arcs().iter().enumerate() {
             if standing[i] {

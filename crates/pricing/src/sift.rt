@@ -46,6 +46,7 @@ pub fn sift<T: Tally, F: Fn(i64, T::Amount, T::Amount) -> bool>(
     priced.forward::<T>(fronts);
     priced.backward::<T>(backs);
     let mut gone = 0usize;
+    // Marks and prices by the arc's number: each is an array of its own, since a sealed chart holds neither.
     for (i, arc) in chart.arcs().iter().enumerate() {
         let front = fronts[entry(usize::from(arc.place), arc.start)];
         let back = backs[entry(usize::from(arc.place) + 1, arc.end)];

@@ -46,6 +46,7 @@ fn weighs(table: &[i64], place: u64, route: u64) -> i64
     requires route { route ≤ 63 }
     ensures { result ≡ budget_weight table.now place route }
 {
+    // There is no `From` of `u64` for `usize`.
     bounded(entry(table, (64 * (place - 1) + route) as usize), 10_000)
 }
 

@@ -35,6 +35,7 @@ fn weighs(pair: Precedence, place: u64, route: u64) -> i64
 {
     let earlier = route == u64::from(pair.earlier);
     let later = route == u64::from(pair.later);
+    // There is no `From` of `u64` for `i64`.
     match (earlier, later) {
         (true, false) => place as i64,
         (false, true) => -(place as i64),

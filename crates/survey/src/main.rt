@@ -26,6 +26,7 @@ fn small_chart() -> Result<Chart, Refusal> {
     Ok(draft.seal())
 }
 
+/// An arc by its five numbers. Other samples have such a helper too: each is a text that is read by itself.
 fn hop(place: u64, start: u64, end: u64, route: u64, minutes: u64) -> NewArc {
     NewArc {
         place,
@@ -40,6 +41,7 @@ fn hop(place: u64, start: u64, end: u64, route: u64, minutes: u64) -> NewArc {
 fn large_chart() -> Result<Chart, Refusal> {
     let mut draft = Draft::new();
     draft.places(32)?;
+    // Numbers that are made: there is no list of them.
     for place in 1..=32u64 {
         for i in 0..32u64 {
             draft.arc(large_arc(place, i))?;

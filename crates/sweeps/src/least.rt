@@ -41,7 +41,8 @@ impl Priced<'_> {
     }
 }
 
-/// Whether a plan stands; writes the first that does into the first places of the buffer.
+/// Whether a plan stands; writes the first that does into the first places of the buffer, which is lent, since nothing here
+/// allocates.
 pub fn first_plan(chart: &Chart, standing: &[bool], plan: &mut [usize]) -> bool
     requires marks { length (arcs_of chart.now) ≤ length standing.now }
     requires room { places_of chart.now ≤ length plan.old }
@@ -63,6 +64,7 @@ fn by_minutes(arcs: &[Arc]) -> [i64; 1024]
     ensures each { (i : ℕ) → i < length arcs.now → slice_index_or result i (pos 0) ≡ pos (arc_at arcs.now i).minutes }
     ensures rest { (i : ℕ) → length arcs.now ≤ i → slice_index_or result i (pos 0) ≡ pos 0 }
 {
+    // An array, as long as any list of arcs: memory is fixed.
     let mut prices = [0; 1024];
     for (i, arc) in arcs.iter().enumerate() {
         prices[i] = i64::from(arc.minutes);

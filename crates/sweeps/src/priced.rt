@@ -4,7 +4,8 @@ ghost use Rattle.ways.specs.Amounts.{Sweepable};
 
 use charts::chart::Chart;
 
-/// A chart, a mark for each arc that stands, and a price for each arc.
+/// A chart, a mark for each arc that stands, and a price for each arc. Marks and prices are arrays by the arc's number: a sealed
+/// chart holds neither.
 #[derive(Drop)]
 pub struct Priced<'a> {
     pub chart: &'a Chart,

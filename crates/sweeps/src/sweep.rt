@@ -55,12 +55,14 @@ impl Priced<'_> {
         let places = usize::from(self.chart.places());
         out.fill_with(|| T::NO_PLAN);
         out[32 * H::row_at(places, 0)] = T::EMPTY_PLAN;
+        // Numbers of steps: there is no list of them.
         for step in 0..places {
             self.cross::<T, H>(step, out);
         }
     }
 
-    // The two directions have a method each, since their contracts speak of other plans.
+    // The two directions have a method each, since their contracts speak of other plans. The table is lent by the caller, who
+    // says how long it is.
 
     /// Writes, for each node, the joining over all standing partial plans from the root to it.
     pub fn forward<T: Tally>(&self, out: &mut [T::Amount])

@@ -58,6 +58,7 @@ impl RouteSet {
     pub fn len(self) -> usize
         ensures { result ≡ length (routes_of self.bits) }
     {
+        // There is no `From` of `u32` for `usize`.
         self.bits.count_ones() as usize
     }
 

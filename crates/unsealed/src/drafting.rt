@@ -21,7 +21,8 @@ pub enum Step {
     Seals,
 }
 
-/// A dossier that is still drafted: whether its header was accepted, its chart and its rules so far.
+/// A dossier that is still drafted: whether its header was accepted, its chart and its rules so far. A flag says the former:
+/// one whose header is missing can be sealed all the same, so it has a chart and rules too.
 #[derive(Drop)]
 pub struct Drafting {
     begun: bool,
@@ -53,6 +54,7 @@ impl Drafting {
             return Err(Refusal::PlacesLate);
         }
         self.draft.places(n)?;
+        // There is no `From` of `u64` for `usize`.
         Ok(Step::Counts(n as usize))
     }
 

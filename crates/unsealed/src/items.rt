@@ -51,6 +51,7 @@ pub fn any_route_outside(mut items: TripleItems) -> bool
 fn entry_at(place: u64, route: u64) -> usize
     ensures { result ≡ min (entry_of place route) (2 ^ 64 - 1) }
 {
+    // There is no `From` of `u64` for `usize`.
     64u64
         .saturating_mul(place.saturating_sub(1))
         .saturating_add(route) as usize

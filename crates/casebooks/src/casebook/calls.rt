@@ -66,7 +66,7 @@ impl<B: Bank> Casebook<B> {
     }
 
     /// Writes the first plan that stands in the working case into the first places of the buffer, and answers whether
-    /// one stands.
+    /// one stands. The buffer is lent, since nothing here allocates; so the answer is a yes or no.
     pub fn sample(&self, plan: &mut [usize]) -> Result<bool, Refusal>
         ensures reply { result ≡ (on_sample (problem_in B.Bank self.now) (model_in self.now) plan.old).answer }
         ensures buffer { plan.new ≡ (on_sample (problem_in B.Bank self.now) (model_in self.now) plan.old).left.buffer }

@@ -105,6 +105,7 @@ impl Offered<'_> {
         requires { length (B.Bank.rules bank.now) ≤ 128 }
         ensures { result ≡ lowest (broken (arcs_of self.entry.chart.now) self.entry.plan.now (B.Bank.rules bank.now)) }
     {
+        // Numbers of rules: a bank is no list.
         for rule in 0..bank.count() {
             if self.breaks(bank, rule) {
                 return Some(rule as u8);

@@ -65,6 +65,7 @@ impl<'a> Reader<'a> {
     fn many<T: LineItem>(&mut self, after: &[u8]) -> Option<()>
         ensures { Ends (Many T.text T.short (41 ∷ after.now)) self.old.rest.now result self.new.rest.now }
     {
+        // Until the text says stop: no index is counted.
         loop {
             match self.peek()? {
                 ' ' => {
