@@ -22,7 +22,6 @@ pub struct ArcTable {
 pub struct Chart {
     places: u8,
     table: ArcTable,
-    ghost long: { length table.at ≡ 1024 },
     ghost within: { table.count ≤ 1024 },
     ghost sealed: { Sealed places (take table.count table.at) },
 }

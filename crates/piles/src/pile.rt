@@ -22,7 +22,6 @@ pub struct Arcs<'a> {
 #[derive(Drop)]
 pub struct Marks {
     pub at: [u16; 1024],
-    ghost long: { length at ≡ 1024 },
 }
 
 /// What a split gave to the case above: the routes of a set at a place.
@@ -51,7 +50,6 @@ pub struct SplitTable {
 pub struct Pile {
     marks: Marks,
     table: SplitTable,
-    ghost recorded: { length table.at ≡ 1024 },
     ghost within: { table.count ≤ 1024 },
     ghost low: { (a : ℕ) → slice_index marks.at a ≤ table.count },
 }

@@ -1,4 +1,4 @@
-use Rattle.std.proofs.Common.{◌≤◌, length, ◌∙◌, arith, length-set}
+use Rattle.std.proofs.Common.{◌≤◌, length, arith}
 use Rattle.piles.proofs.Heights.{length_cases}
 use Rattle.piles.proofs.Views.{split_view, split_low_view}
 use Rattle.piles.proofs.pile.Pile.split.Goals as goal
@@ -9,7 +9,6 @@ invariant_of-self c =
     let arcs = c.args.arcs.all.now in
     let long : s.table.count ≤ length s.table.at = omega arith in
     record {
-      recorded = length-set _ _ _ ∙ s.recorded;
       within = omega (arith, length_cases arcs s.marks.at s.table.at s.table.count);
       low = split_low_view arcs s.marks.at s.table.at s.table.count c.requires.some s.low c.args.split c.cut.new.self.at long c.cut.ensures;
     }
