@@ -2,7 +2,7 @@
 //!
 //! The work on it stands in modules below: a definition that names these structs cannot be cited in the file that
 //! declares their ghost fields.
-ghost use Rattle.std.specs.Prelude.{◌≡◌, ◌≤◌, length};
+ghost use Rattle.std.specs.Prelude.{◌≤◌};
 
 use charts::chart::Chart;
 use piles::pile::Pile;

@@ -9,8 +9,7 @@ use terms::refusal::Refusal;
 
 /// A table of 1,024 entries, none in use.
 fn empty_table() -> ArcTable
-    ensures long { length result.at ≡ 1024 }
-    ensures count { result.count ≡ 0 }
+    ensures { result.count ≡ 0 }
 {
     let none = Arc {
         place: 0,
