@@ -27,7 +27,7 @@ impl<R: Read, W: Write> Session<R, W> {
         Session {
             lines: Lines::new(input),
             out: Gathered::new(output),
-            summary: Summary::new(),
+            summary: Summary::default(),
         }
     }
 
@@ -51,6 +51,7 @@ impl<R: Read, W: Write> Session<R, W> {
             match drafting.line(line) {
                 Ok(Step::Seals) => return Ok(Some(drafting.seal())),
                 Ok(Step::Counts(n)) => self.reply(Ok(Answer::Count(n)))?,
+                // A step is no answer, so the error is put into another type.
                 Err(refusal) => self.reply(Err(refusal))?,
             }
         }

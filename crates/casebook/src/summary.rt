@@ -5,7 +5,7 @@ use terms::refusal::Refusal;
 use terms::verdict::Verdict;
 
 /// What was done.
-#[derive(Drop)]
+#[derive(Default, Drop)]
 pub struct Summary {
     lines: u64,
     accepted: u64,
@@ -15,17 +15,6 @@ pub struct Summary {
 }
 
 impl Summary {
-    /// Nothing was done.
-    pub fn new() -> Summary {
-        Summary {
-            lines: 0,
-            accepted: 0,
-            refused: 0,
-            arcs: 0,
-            verdict: None,
-        }
-    }
-
     /// Counts the reply to a line. Answers the line's number.
     pub fn count(&mut self, reply: &Result<Answer, Refusal>) -> u64 {
         self.lines = self.lines.saturating_add(1);

@@ -53,7 +53,7 @@ fn strike<B: Bank>(book: &mut Casebook<B>, items: PairItems) -> Result<Answer, R
     book.strike(&multipliers).map(Answer::Count)
 }
 
-/// Closes with the multipliers that a line names.
+/// Closes with the multipliers that a line names. Its one call is another than that of `strike`: a function over the two is no plainer.
 fn close<B: Bank>(book: &mut Casebook<B>, items: PairItems) -> Result<Answer, Refusal>
     ensures reply { (xs : List (ℕ × ℤ)) → HoldsPairs xs items.entry → replied_by result ≡ (on_work (problem_in B.Bank book.old) (model_in book.old) (Close xs)).answer }
     ensures left { (xs : List (ℕ × ℤ)) → HoldsPairs xs items.entry → model_in book.new ≡ (on_work (problem_in B.Bank book.old) (model_in book.old) (Close xs)).left }

@@ -3,7 +3,7 @@ use std::fmt;
 use terms::refusal::Refusal;
 use terms::verdict::Verdict;
 
-/// What an accepted call answers.
+/// What an accepted call answers. A dossier's answer is another: it holds the plan that a sample wrote.
 #[derive(Clone, Copy, PartialEq, Eq)]
 pub enum Answer {
     /// A number of cases, arcs, rules or minutes.

@@ -16,11 +16,7 @@ pub struct NotBefore {
 fn weighs(bank: NotBefore, place: u64, route: u64) -> i64
     ensures { result ≡ not_before_weight bank.route bank.place place route }
 {
-    if route == u64::from(bank.route) && place < u64::from(bank.place) {
-        1
-    } else {
-        0
-    }
+    i64::from(route == u64::from(bank.route) && place < u64::from(bank.place))
 }
 
 impl Bank for NotBefore {

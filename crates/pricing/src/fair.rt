@@ -31,6 +31,7 @@ pub fn first_unfair<B: Bank>(bank: &B, multipliers: &[i64]) -> Option<usize>
     requires { Matched (B.Bank.rules bank.now) multipliers.now }
     ensures { result ≡ lowest (unfair (B.Bank.rules bank.now) multipliers.now) }
 {
+    // No `position`: its closure would owe what `has_fair` asks of a rule.
     for (rule, multiplier) in multipliers.iter().enumerate() {
         if !has_fair(bank, rule, *multiplier) {
             return Some(rule);

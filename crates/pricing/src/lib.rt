@@ -19,7 +19,7 @@ pub mod trim;
 use arrayvec::ArrayVec;
 use rules::bank::Bank;
 
-/// A bank of at most 128 rules with a fair multiplier for each, and the numbers of the rules whose multiplier is not 0:
+/// A bank of at most 128 rules with a fair multiplier for each, which who makes one has to show, and the numbers of the rules whose multiplier is not 0:
 /// no other is asked for an arc's price.
 #[derive(Drop)]
 pub struct Pricing<'a, B: Bank> {

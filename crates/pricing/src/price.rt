@@ -23,7 +23,8 @@ fn least_sum(priced: &Priced) -> Option<i64>
 }
 
 impl<'a, B: Bank> Pricing<'a, B> {
-    /// The least priced amount over the standing plans, if any stands.
+    /// The least priced amount over the standing plans, if any stands. Who wants no plan has no buffer for one: so this stands beside
+    /// `priced_plan`.
     pub fn least_amount(&self, chart: &Chart, standing: &[bool]) -> Option<i64>
         requires { length (arcs_of chart.now) ≤ length standing.now }
         ensures { result ≡ least_amount chart.now (B.Bank.rules self.now.bank.now) self.now.multipliers.now standing.now }

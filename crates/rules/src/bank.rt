@@ -26,7 +26,7 @@ pub trait Bank {
         ensures { result ≡ weight_of (rules self.now) rule place route };
 }
 
-/// The count that a bank of `rules` rules answers.
+/// The count that a bank of `rules` rules answers: 129 stands for more than 128, as a bank's meaning has it.
 pub fn capped(rules: usize) -> usize
     ensures { result ≡ min rules 129 }
 {

@@ -67,6 +67,7 @@ impl<'a> Bank for Budget<'a> {
     }
 
     fn weight(&self, rule: usize, place: u64, route: u64) -> Option<i64> {
+        // The same test stands in each make of bank: a bank written elsewhere has it from no one either.
         let asked = rule < self.count() && on_grid(place, route);
         asked.then(|| weighs(self.table, place, route))
     }

@@ -26,11 +26,7 @@ impl Once {
 fn weighs(routes: RouteSet, rule: usize, route: u64) -> i64
     ensures { result ≡ (if is_nth routes.bits rule route then pos 1 else pos 0) }
 {
-    if routes.contains(route) && routes.rank(route) == rule {
-        1
-    } else {
-        0
-    }
+    i64::from(routes.contains(route) && routes.rank(route) == rule)
 }
 
 impl Bank for Once {

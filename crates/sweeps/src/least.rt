@@ -58,12 +58,12 @@ pub fn first_plan(chart: &Chart, standing: &[bool], plan: &mut [usize]) -> bool
 }
 
 /// Each arc's minutes as its price.
-fn by_minutes(arcs: &[Arc]) -> [i64; 1024]
-    requires { length arcs.now ≤ 1024 }
+fn by_minutes(chart: &Chart) -> [i64; 1024]
     ensures long { length result ≡ 1024 }
-    ensures each { (i : ℕ) → i < length arcs.now → slice_index_or result i (pos 0) ≡ pos (arc_at arcs.now i).minutes }
-    ensures rest { (i : ℕ) → length arcs.now ≤ i → slice_index_or result i (pos 0) ≡ pos 0 }
+    ensures each { (i : ℕ) → i < length (arcs_of chart.now) → slice_index_or result i (pos 0) ≡ pos (arc_at (arcs_of chart.now) i).minutes }
+    ensures rest { (i : ℕ) → length (arcs_of chart.now) ≤ i → slice_index_or result i (pos 0) ≡ pos 0 }
 {
+    let arcs = chart.arcs();
     // An array, as long as any list of arcs: memory is fixed.
     let mut prices = [0; 1024];
     for (i, arc) in arcs.iter().enumerate() {
@@ -78,7 +78,7 @@ fn cheapest_plan(chart: &Chart, plan: &mut [usize]) -> Option<i64>
     ensures amount { result ≡ amount_in (λ p. pos (cost (arcs_of chart.now) p)) (cheapest_plan (places_of chart.now) (arcs_of chart.now)) }
     ensures plan { plan.new ≡ written (cheapest_plan (places_of chart.now) (arcs_of chart.now)) plan.old }
 {
-    let prices = by_minutes(chart.arcs());
+    let prices = by_minutes(chart);
     let priced = Priced {
         chart,
         standing: &[true; 1024],

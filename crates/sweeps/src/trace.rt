@@ -35,7 +35,7 @@ impl Priced<'_> {
 
     /// Traces a plan along the table that a backward sweep has filled: writes into the first places of the buffer
     /// the plan that takes, at each node from the root on, the smallest arc that attains the node's amount, and
-    /// answers whether there is one.
+    /// answers whether there is one. Buffer and table are lent, since nothing here allocates.
     pub fn trace<T: Choosing>(&self, table: &[T::Amount], plan: &mut [usize]) -> bool
         requires filled { BackwardTable T.Tally self.now table.now }
         requires long { length table.now ≡ 1056 }

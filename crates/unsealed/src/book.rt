@@ -58,6 +58,7 @@ impl RuleBook {
         if earlier > 63 || later > 63 {
             return Err(Refusal::RouteRange);
         }
+        // In range by the row above.
         self.pairs.push(Precedence {
             earlier: earlier as u8,
             later: later as u8,

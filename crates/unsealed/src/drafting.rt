@@ -86,6 +86,7 @@ impl Drafting {
             return Err(Refusal::NotHere);
         };
         self.begun = true;
+        // The header is answered 0, as the format wants.
         Ok(Step::Counts(0))
     }
 

@@ -118,8 +118,8 @@ impl<B: Bank> Casebook<B> {
         ensures left { model_in self.new ≡ (on_split (problem_in B.Bank self.old) (model_in self.old) place routes.bits).left }
         ensures same { problem_in B.Bank self.new ≡ problem_in B.Bank self.old }
     {
-        self.desk.split_row(place, routes)?;
-        self.desk.split(place as u8, routes);
+        let split = self.desk.split_row(place, routes)?;
+        self.desk.split(split);
         Ok(self.desk.height())
     }
 

@@ -1,5 +1,5 @@
 //! The work on what a casebook has beside its bank.
-ghost use Rattle.std.specs.Prelude.{◌≡◌, ℕ, ◌<◌, ◌≤◌, false, ◌&&◌, [], ◌∷◌, length, take, None, slice_index_or};
+ghost use Rattle.std.specs.Prelude.{◌≡◌, ℕ, ◌<◌, ◌≤◌, false, ◌&&◌, [], ◌∷◌, length, take, None, slice_index_or, IfOk};
 ghost use Rattle.std.specs.Result.{result_err};
 ghost use Rattle.plans.specs.Arcs.{Sealed};
 ghost use Rattle.plans.specs.Plans.{cost};
@@ -37,6 +37,8 @@ impl HeldPlan {
     }
 }
 
+// Clauses say `problem_of` with the rules of a bank, or with none: a desk holds no bank. That a case is open is asked by clauses: a
+// struct that kept it would have to be made anew after each change.
 impl Desk {
     /// A desk with a chart: claim 0, one case with every arc, no plan held.
     pub fn new(chart: Chart) -> Desk
@@ -97,23 +99,24 @@ impl Desk {
     }
 
     /// Leaves in the working case only the arcs that are kept.
-    pub fn keep(&mut self, keeps: &[bool])
-        requires some { 0 < length (model_of self.old).pile }
-        requires told { length keeps.now ≡ 1024 }
+    pub fn keep(&mut self, keeps: &[bool; 1024])
+        requires { 0 < length (model_of self.old).pile }
         ensures chart { self.new.chart ≡ self.old.chart }
         ensures model { model_of self.new ≡ piled (model_of self.old) ((λ a. top (model_of self.old).pile a && slice_index_or keeps.now a false) ∷ under (model_of self.old).pile) }
     {
         self.pile.keep(arcs_in(&self.chart), keeps);
     }
 
-    /// The first row that refuses a split.
-    pub fn split_row(&self, place: u64, routes: RouteSet) -> Result<(), Refusal>
-        ensures { result_err result ≡ split_rows (problem_of self.now []) (model_of self.now) place routes.bits }
+    /// The split of the working case at a place by a set of routes, or the first row that refuses it.
+    pub fn split_row(&self, place: u64, routes: RouteSet) -> Result<Split, Refusal>
+        ensures given { IfOk result (λ s. (s.place ≡ place) × (s.routes ≡ routes)) }
+        ensures row { result_err result ≡ split_rows (problem_of self.now []) (model_of self.now) place routes.bits }
     {
         self.case_row()?;
         if place < 1 || place > u64::from(self.chart.places()) {
             return Err(Refusal::SplitPlace);
         }
+        // In range by the row above.
         let split = Split {
             place: place as u8,
             routes,
@@ -124,17 +127,16 @@ impl Desk {
         if self.height() >= 1024 {
             return Err(Refusal::PileFull);
         }
-        Ok(())
+        Ok(split)
     }
 
     /// Splits the working case.
-    pub fn split(&mut self, place: u8, routes: RouteSet)
+    pub fn split(&mut self, split: Split)
         requires some { 0 < length (model_of self.old).pile }
         requires room { length (model_of self.old).pile < 1024 }
         ensures chart { self.new.chart ≡ self.old.chart }
-        ensures model { model_of self.new ≡ piled (model_of self.old) (inside (arcs_of self.old.chart) place routes.bits (top (model_of self.old).pile) ∷ outside (arcs_of self.old.chart) place routes.bits (top (model_of self.old).pile) ∷ under (model_of self.old).pile) }
+        ensures model { model_of self.new ≡ piled (model_of self.old) (inside (arcs_of self.old.chart) split.place split.routes.bits (top (model_of self.old).pile) ∷ outside (arcs_of self.old.chart) split.place split.routes.bits (top (model_of self.old).pile) ∷ under (model_of self.old).pile) }
     {
-        let split = Split { place, routes };
         self.pile.split(arcs_in(&self.chart), split);
     }
 

@@ -16,6 +16,7 @@ use terms::rule::Sense;
 fn minutes_of(chart: &Chart, number: usize) -> u16
     ensures { result ≡ (arc_at (arcs_of chart.now) number).minutes }
 {
+    // The definition of an arc by its number has 0 there too.
     chart.arc(number).map_or(0, |arc| arc.minutes)
 }
 

@@ -41,6 +41,7 @@ fn multiplier_row<'a, B: Bank>(
     }
 }
 
+// Clauses say `problem_of` with the rules of a bank: a desk holds none.
 impl Desk {
     /// The row on open cases.
     pub fn case_row(&self) -> Result<(), Refusal>

@@ -28,6 +28,8 @@ fn below(amount: Option<i64>, mark: i64) -> Option<i64>
     amount.filter(|least| *least < mark)
 }
 
+// Clauses say `problem_of` with the rules of a bank: a desk holds none. A case is open and a lent buffer has room by clauses, as the
+// rows have shown. `strike` and `trim` differ in the call that takes marks away, and one has a pricing: a closure for it is no plainer.
 impl Desk {
     /// The least priced amount over the plans that stand in the working case; writes the first plan with that amount.
     pub fn priced<B: Bank>(&self, pricing: &Pricing<B>, plan: &mut [usize]) -> Option<i64>

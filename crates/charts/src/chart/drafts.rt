@@ -109,6 +109,7 @@ impl Draft {
         if number >= 1024 {
             return Err(Refusal::ArcsFull);
         }
+        // In range by the rows above.
         self.chart.push(Arc {
             place: new.place as u8,
             start: new.start as u8,

@@ -6,7 +6,7 @@ use super::Refusal;
 use std::fmt;
 
 impl Refusal {
-    /// The number by which a refusal is reported, and the value beside it.
+    /// The number by which a refusal is reported, and the value beside it: 0 where it has none, as the format wants.
     pub fn number(self) -> (u8, i64)
         ensures { result ≡ number_of self }
     {
