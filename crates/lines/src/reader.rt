@@ -31,6 +31,7 @@ impl Reader<'_> {
         requires { (length self.now.rest.now ≤ length line.now) × (length line.now ≤ 4096) }
         ensures { result ≡ length line.now - length self.now.rest.now + 1 }
     {
+        // At most 4,097.
         (line.len() - self.rest.len() + 1) as u16
     }
 

@@ -71,7 +71,8 @@ impl<'a, B: Bank> Pricing<'a, B> {
         share
     }
 
-    /// The price of each standing arc of a chart, and 0 for the others.
+    /// The price of each standing arc of a chart, and 0 for the others. That each arc has a mark is a clause, here and at the other calls
+    /// that read marks: `strike` and `trim` are lent them as `&mut`, and no struct could keep that for both.
     pub fn standing_prices(&self, chart: &Chart, standing: &[bool]) -> [i64; 1024]
         requires { length (arcs_of chart.now) ≤ length standing.now }
         ensures long { length result ≡ 1024 }

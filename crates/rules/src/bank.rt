@@ -40,6 +40,8 @@ pub fn on_grid(place: u64, route: u64) -> bool
     1 <= place && place <= 32 && route <= 63
 }
 
+// That the bank has the rule is a clause: a struct of a bank and a rule would be made for each number and used once.
+
 /// The head of a rule that the bank has.
 pub fn head_at<B: Bank>(bank: &B, rule: usize) -> Head
     requires { rule < counted (B.Bank.rules bank.now) }

@@ -17,6 +17,7 @@ use tallies::tally::Choosing;
 use terms::arc::Arc;
 use terms::refusal::Refusal;
 
+// Tables and buffers are lent, since nothing here allocates: so their lengths are clauses.
 impl Priced<'_> {
     /// The joining over all standing plans, for which the table is lent; writes the plan that attains it.
     fn attain<T: Choosing>(&self, table: &mut [T::Amount], plan: &mut [usize]) -> T::Amount
@@ -42,7 +43,7 @@ impl Priced<'_> {
 }
 
 /// Whether a plan stands; writes the first that does into the first places of the buffer, which is lent, since nothing here
-/// allocates.
+/// allocates. That each arc has a mark is a clause: who changes marks is lent them as `&mut`, and no struct could keep that for both.
 pub fn first_plan(chart: &Chart, standing: &[bool], plan: &mut [usize]) -> bool
     requires marks { length (arcs_of chart.now) ≤ length standing.now }
     requires room { places_of chart.now ≤ length plan.old }

@@ -7,6 +7,8 @@ ghost use Rattle.sweeps.specs.Tables.{BackwardTable, PickedAt, TracedInto};
 use super::priced::Priced;
 use tallies::tally::Choosing;
 
+// Tables and buffers are lent, since nothing here allocates: so their lengths are clauses. An entry is 32 for each row and the node; a
+// function for this one sum is no plainer.
 impl Priced<'_> {
     /// The smallest standing arc from node `node` of level `place` that attains the node's amount.
     fn pick<T: Choosing>(&self, table: &[T::Amount], place: usize, node: usize) -> Option<usize>

@@ -50,6 +50,7 @@ impl<B: Bank> Casebook<B> {
         if minutes > 1_000_000 {
             return Err(Refusal::ClaimRange);
         }
+        // In range by the row above.
         self.desk.restart(minutes as u32);
         Ok(1)
     }

@@ -20,6 +20,8 @@ fn minutes_of(chart: &Chart, number: usize) -> u16
     chart.arc(number).map_or(0, |arc| arc.minutes)
 }
 
+// A plan that is held, or not known to be there yet, is a slice with a clause on its length; one whose arcs are all there is `Offered`.
+
 /// The cost of a plan: the sum of its minutes.
 pub fn cost_of(chart: &Chart, plan: &[usize]) -> u32
     requires { length plan.now ≤ 32 }
@@ -37,6 +39,7 @@ pub fn stray(chart: &Chart, offered: &[usize]) -> Option<u8>
 {
     let mut node = 0u8;
     for (j, number) in offered.iter().enumerate() {
+        // At most 32.
         let place = j as u8 + 1;
         let Some(arc) = chart.arc(*number) else {
             return Some(place);
@@ -68,6 +71,7 @@ pub struct Offered<'a> {
     ghost there: { (i : ℕ) → i < length plan.now → slice_index plan.now i < length (arcs_of chart.now) },
 }
 
+// That the bank has the rule is a clause: a struct of a bank and a rule would be made for each number and used once.
 impl Offered<'_> {
     /// The weight of a rule at an arc of the plan.
     fn weight_at<B: Bank>(self, bank: &B, rule: usize, number: usize) -> i64
@@ -109,6 +113,7 @@ impl Offered<'_> {
         // Numbers of rules: a bank is no list.
         for rule in 0..bank.count() {
             if self.breaks(bank, rule) {
+                // At most 127.
                 return Some(rule as u8);
             }
         }

@@ -36,6 +36,7 @@ fn multiplier_row<'a, B: Bank>(
         return Err(Refusal::MultiplierCount);
     }
     match first_unfair(bank, multipliers) {
+        // At most 127.
         Some(rule) => Err(Refusal::MultiplierRange(rule as u8)),
         None => Ok(Pricing::new(bank, multipliers)),
     }

@@ -84,6 +84,7 @@ impl Draft {
         if self.chart.table.count > 0 {
             return Err(Refusal::PlacesLate);
         }
+        // In range by the row above.
         self.chart.places = n as u8;
         Ok(n)
     }

@@ -9,6 +9,7 @@ use super::Reader;
 use crate::form::Form;
 use crate::word::Word;
 
+// That a line has at most 4,096 bytes is a clause: the reader's other functions read texts of any length.
 impl<'a> Reader<'a> {
     /// The form that the line is.
     pub(crate) fn form(&mut self) -> Option<Form<'a>>

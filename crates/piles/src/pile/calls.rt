@@ -23,6 +23,8 @@ fn one_case() -> SplitTable
     }
 }
 
+// That a case is open is a clause: a struct that kept it would have to be made anew after each change. A height is at most 1,024, so
+// the casts lose nothing.
 impl Pile {
     /// One case with every arc.
     pub fn new() -> Pile
