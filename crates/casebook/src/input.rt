@@ -52,7 +52,7 @@ impl<R: Read> Lines<R> {
     /// The next line, if there is one. What was written is flushed before input is waited for.
     pub fn next(&mut self, out: &mut impl Write) -> io::Result<Option<&[u8]>> {
         self.line.clear();
-        // A loop over input to its end is written with a count.
+        // Counted, since the program has no leave to wait for ever.
         for _ in 0..u64::MAX {
             if self.advance() {
                 return Ok(Some(&self.line));

@@ -43,7 +43,7 @@ impl<R: Read, W: Write> Session<R, W> {
     /// Reads lines until the draft is sealed: its chart and its rules, if it was.
     pub fn draft(&mut self) -> io::Result<Option<(Chart, RuleBook)>> {
         let mut drafting = Drafting::new();
-        // A loop over input to its end is written with a count.
+        // Counted, since the program has no leave to wait for ever.
         for _ in 0..u64::MAX {
             let Some(line) = self.lines.next(&mut self.out)? else {
                 return Ok(None);
@@ -67,7 +67,7 @@ impl<R: Read, W: Write> Session<R, W> {
 
     /// Reads the lines after the seal.
     pub fn judge<B: Bank>(&mut self, book: &mut Casebook<B>) -> io::Result<()> {
-        // A loop over input to its end is written with a count.
+        // Counted, since the program has no leave to wait for ever.
         for _ in 0..u64::MAX {
             let Some(line) = self.lines.next(&mut self.out)? else {
                 break;

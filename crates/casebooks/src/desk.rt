@@ -27,7 +27,7 @@ pub struct Claim {
     ghost modest: { minutes ≤ 1_000_000 },
 }
 
-/// A sealed chart, a claim, the open cases and the plan held, if any.
+/// A sealed chart, a claim, the open cases and the plan held, if any. No `impl Model`: a case is a function, which has no code.
 #[derive(Drop)]
 pub struct Desk {
     chart: Chart,

@@ -9,6 +9,7 @@ use lines::form::NumberItems;
 pub fn offered(items: NumberItems) -> ArrayVec<usize, 33>
     ensures { (arcs : List ℕ) → HoldsNumbers arcs items.entry → result.items ≡ take 33 arcs }
 {
+    // No `take`: a vector in fixed memory is filled one by one.
     let mut offered = ArrayVec::new();
     for arc in items {
         if offered.is_full() {

@@ -40,6 +40,7 @@ pub fn read(line: &[u8]) -> Result<Form<'_>, Impossible>
         return Err(Impossible { byte: 4097 });
     }
     let mut reader = Reader::new(line);
+    // With `ok_or_else` the proof did not close: what the closure is asked for is lost on the way.
     match reader.form() {
         Some(form) => Ok(form),
         None => Err(Impossible {

@@ -31,7 +31,7 @@ impl Reader<'_> {
         requires { (length self.now.rest.now ≤ length line.now) × (length line.now ≤ 4096) }
         ensures { result ≡ length line.now - length self.now.rest.now + 1 }
     {
-        // At most 4,097.
+        // At most 4,097, since a line that is read has 4,096 bytes or fewer.
         (line.len() - self.rest.len() + 1) as u16
     }
 
@@ -76,7 +76,7 @@ impl Reader<'_> {
     fn end(&mut self) -> Option<()>
         ensures { Ends (Is []) self.old.rest.now result self.new.rest.now }
     {
-        if self.rest.is_empty() { Some(()) } else { None }
+        self.rest.is_empty().then_some(())
     }
 
     /// The bracket that ends a form, and the end of the line.
@@ -106,6 +106,7 @@ impl Reader<'_> {
     fn digit(&mut self) -> Option<u64>
         ensures { MatchOption result ((self.new.rest.now ≡ self.old.rest.now) × Open self.old.rest.now) (λ d. Digit (48 + d) × (self.old.rest.now ≡ (48 + d) ∷ self.new.rest.now)) }
     {
+        // Characters as cases, as everywhere in the reader.
         match self.peek()? {
             c @ '0'..='9' => {
                 self.skip();

@@ -26,7 +26,8 @@ fn has_fair<B: Bank>(bank: &B, rule: usize, multiplier: i64) -> bool
     is_fair(head_at(bank, rule).sense, multiplier)
 }
 
-/// The lowest rule whose multiplier is out of range or of the wrong sign, if there is one.
+/// The lowest rule whose multiplier is out of range or of the wrong sign, if there is one. It is what shows that a `Pricing` may be
+/// made, so there is none yet.
 pub fn first_unfair<B: Bank>(bank: &B, multipliers: &[i64]) -> Option<usize>
     requires { Matched (B.Bank.rules bank.now) multipliers.now }
     ensures { result ≡ lowest (unfair (B.Bank.rules bank.now) multipliers.now) }

@@ -40,7 +40,7 @@ impl<'a, B: Bank> Pricing<'a, B> {
     }
 
     /// The least priced amount over the standing plans, if any stands; writes the first plan with that amount into the
-    /// first places of the buffer.
+    /// first places of the buffer, which is lent, so its room is a clause; and that each arc has a mark is one, as for each of these calls.
     pub fn priced_plan(&self, chart: &Chart, standing: &[bool], plan: &mut [usize]) -> Option<i64>
         requires marks { length (arcs_of chart.now) ≤ length standing.now }
         requires room { places_of chart.now ≤ length plan.old }

@@ -15,7 +15,7 @@ use rules::bank::{Bank, head_at, weight_at};
 use terms::arc::Arc;
 
 impl<'a, B: Bank> Pricing<'a, B> {
-    /// The pricing of a bank under fair multipliers.
+    /// The pricing of a bank under fair multipliers: who makes one shows that they are.
     pub fn new(bank: &'a B, multipliers: &'a [i64]) -> Pricing<'a, B>
         requires { Priceable (B.Bank.rules bank.now) multipliers.now }
         ensures bank { result.bank.now ≡ bank.now }
@@ -43,6 +43,7 @@ impl<'a, B: Bank> Pricing<'a, B> {
         requires { Gridded arc }
         ensures { result ≡ arc_price (B.Bank.rules self.now.bank.now) self.now.multipliers.now arc }
     {
+        // A sum of signed numbers: its bound is shown turn by turn.
         let mut price = 1000 * i64::from(arc.minutes);
         for rule in self.active.iter() {
             price += self.weight_part(*rule, arc);
@@ -71,15 +72,15 @@ impl<'a, B: Bank> Pricing<'a, B> {
         share
     }
 
-    /// The price of each standing arc of a chart, and 0 for the others. That each arc has a mark is a clause, here and at the other calls
-    /// that read marks: `strike` and `trim` are lent them as `&mut`, and no struct could keep that for both.
+    /// The price of each standing arc of a chart, and 0 for the others. That each arc has a mark is a clause: an array of
+    /// 1,024 marks as the type would ask more of callers.
     pub fn standing_prices(&self, chart: &Chart, standing: &[bool]) -> [i64; 1024]
         requires { length (arcs_of chart.now) ≤ length standing.now }
         ensures long { length result ≡ 1024 }
         ensures each { (a : ℕ) → slice_index_or result a (pos 0) ≡ standing_price (B.Bank.rules self.now.bank.now) self.now.multipliers.now (arcs_of chart.now) (marked standing.now) a }
         ensures fit { Sweepable (arcs_of chart.now) standing.now result }
     {
-        // An array, as long as any list of arcs: memory is fixed.
+        // An array, as long as any list of arcs: memory is fixed. By number: marks and prices stand beside the arcs of a sealed chart.
         let mut prices = [0; 1024];
         for (i, arc) in chart.arcs().iter().enumerate() {
             if standing[i] {

@@ -23,7 +23,8 @@ fn entry(level: usize, node: u8) -> usize
 
 /// Takes away the mark of each arc that fails a test of its price, the amount before it and the amount behind it, and
 /// answers how many. So whatever set of arcs the test tells of, its arcs keep their marks and no others do. The two tables
-/// are lent to the sweeps, since an array of an amount of any type cannot be made here; so their lengths are clauses.
+/// are lent to the sweeps: to make arrays of any type of amount here was tried, and that such an array fits in memory did not prove. So their
+/// lengths are clauses, and that prices fit is one, since marks are changed here.
 pub fn sift<T: Tally, F: Fn(i64, T::Amount, T::Amount) -> bool>(
     chart: &Chart,
     prices: &[i64],

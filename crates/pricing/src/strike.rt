@@ -33,7 +33,8 @@ fn is_below(amount: Option<i64>, mark: i64) -> bool
 }
 
 impl<'a, B: Bank> Pricing<'a, B> {
-    /// Takes away the mark of each arc on no standing plan priced below `mark`, and answers how many.
+    /// Takes away the mark of each arc on no standing plan priced below `mark`, and answers how many. That each arc has a mark is a
+    /// clause: an array of 1,024 marks as the type would ask more of callers.
     pub fn strike(&self, chart: &Chart, mark: i64, standing: &mut [bool]) -> usize
         requires { length (arcs_of chart.now) ≤ length standing.old }
         ensures { Sifted (on_some (priced_below chart.now (B.Bank.rules self.now.bank.now) self.now.multipliers.now mark standing.old)) (length (arcs_of chart.now)) standing.old standing.new result }

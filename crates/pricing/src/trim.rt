@@ -9,7 +9,8 @@ use crate::sift::sift;
 use charts::chart::Chart;
 use tallies::kinds::Reach;
 
-/// Takes away the mark of each arc on no standing plan, and answers how many.
+/// Takes away the mark of each arc on no standing plan, and answers how many. That each arc has a mark is a clause, as for
+/// `strike`.
 pub fn trim(chart: &Chart, standing: &mut [bool]) -> usize
     requires { length (arcs_of chart.now) ≤ length standing.old }
     ensures { Sifted (on_some (standing_on chart.now standing.old)) (length (arcs_of chart.now)) standing.old standing.new result }

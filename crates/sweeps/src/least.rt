@@ -43,7 +43,7 @@ impl Priced<'_> {
 }
 
 /// Whether a plan stands; writes the first that does into the first places of the buffer, which is lent, since nothing here
-/// allocates. That each arc has a mark is a clause: who changes marks is lent them as `&mut`, and no struct could keep that for both.
+/// allocates. That each arc has a mark is a clause: an array of 1,024 marks as the type would ask more of callers.
 pub fn first_plan(chart: &Chart, standing: &[bool], plan: &mut [usize]) -> bool
     requires marks { length (arcs_of chart.now) ≤ length standing.now }
     requires room { places_of chart.now ≤ length plan.old }
@@ -65,7 +65,7 @@ fn by_minutes(chart: &Chart) -> [i64; 1024]
     ensures rest { (i : ℕ) → length (arcs_of chart.now) ≤ i → slice_index_or result i (pos 0) ≡ pos 0 }
 {
     let arcs = chart.arcs();
-    // An array, as long as any list of arcs: memory is fixed.
+    // An array, as long as any list of arcs: memory is fixed. By number: prices stand beside the arcs of a sealed chart.
     let mut prices = [0; 1024];
     for (i, arc) in arcs.iter().enumerate() {
         prices[i] = i64::from(arc.minutes);
@@ -73,7 +73,8 @@ fn by_minutes(chart: &Chart) -> [i64; 1024]
     prices
 }
 
-/// The least minutes of a chart's plans, if it has any; writes the first plan with that cost.
+/// The least minutes of a chart's plans, if it has any; writes the first plan with that cost. The buffer is lent, so its room is a
+/// clause.
 fn cheapest_plan(chart: &Chart, plan: &mut [usize]) -> Option<i64>
     requires { places_of chart.now ≤ length plan.old }
     ensures amount { result ≡ amount_in (λ p. pos (cost (arcs_of chart.now) p)) (cheapest_plan (places_of chart.now) (arcs_of chart.now)) }

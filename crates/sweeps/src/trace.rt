@@ -7,8 +7,8 @@ ghost use Rattle.sweeps.specs.Tables.{BackwardTable, PickedAt, TracedInto};
 use super::priced::Priced;
 use tallies::tally::Choosing;
 
-// Tables and buffers are lent, since nothing here allocates: so their lengths are clauses. An entry is 32 for each row and the node; a
-// function for this one sum is no plainer.
+// Tables and buffers are lent, since nothing here allocates: so their lengths are clauses. An entry is 32 for each row and the node: a
+// sum of one line, as in the sweep, which takes the row's part out of its loop.
 impl Priced<'_> {
     /// The smallest standing arc from node `node` of level `place` that attains the node's amount.
     fn pick<T: Choosing>(&self, table: &[T::Amount], place: usize, node: usize) -> Option<usize>
@@ -20,7 +20,7 @@ impl Priced<'_> {
     {
         let whole = table[32 * (place - 1) + node];
         let arcs = self.chart.arcs();
-        // No `position`: the amounts fit only because the arc is one of the chart, which a closure over any arc does not know.
+        // By number: marks and prices stand beside the arcs. No `position`: the amounts fit only because the arc is one of the chart, which a closure over any arc does not know.
         for (i, arc) in arcs.iter().enumerate() {
             if self.standing[i]
                 && usize::from(arc.place) == place

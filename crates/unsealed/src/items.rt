@@ -61,6 +61,7 @@ fn entry_at(place: u64, route: u64) -> usize
 pub fn put(table: &mut [i64], at: usize, value: i64)
     ensures { table.new ≡ slice_set table.old at value }
 {
+    // By index: after a write through `get_mut` of a slice a proof knows no element.
     if at < table.len() {
         table[at] = value;
     }

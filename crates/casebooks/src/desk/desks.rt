@@ -26,7 +26,7 @@ fn arcs_in(chart: &Chart) -> Arcs<'_>
 }
 
 impl HeldPlan {
-    /// A plan in the first places of an array.
+    /// A plan in the first places of an array. Its length is a clause, as in `cost_of`.
     fn of(plan: &[usize]) -> HeldPlan
         requires { length plan.now ≤ 32 }
         ensures { take (length plan.now) result.at ≡ plan.now }
@@ -62,7 +62,7 @@ impl Desk {
         self.chart.places()
     }
 
-    /// The cost of a plan of the chart.
+    /// The cost of a plan of the chart. It is asked after the plan is held, when no `Offered` lends the chart any more.
     pub fn cost(&self, plan: &[usize]) -> u32
         requires { length plan.now ≤ 32 }
         ensures { result ≡ cost (arcs_of self.now.chart) plan.now }
@@ -87,7 +87,7 @@ impl Desk {
         self.pile = Pile::new();
     }
 
-    /// Which arcs stand in the working case.
+    /// Which arcs stand in the working case: an array, as long as any list of arcs, since memory is fixed.
     pub fn working(&self) -> [bool; 1024]
         requires { 0 < length (model_of self.now).pile }
         ensures long { length result ≡ 1024 }
@@ -149,7 +149,7 @@ impl Desk {
         self.pile.close(arcs_in(&self.chart));
     }
 
-    /// Holds a plan.
+    /// Holds a plan. It is no `Offered`, which would lend the chart while the desk changes.
     pub fn hold(&mut self, plan: &[usize])
         requires { length plan.now ≡ places_of self.old.chart }
         ensures chart { self.new.chart ≡ self.old.chart }

@@ -89,6 +89,7 @@ impl Offered<'_> {
         ensures value { result ≡ weighed (arcs_of self.entry.chart.now) (slice_index_or (B.Bank.rules bank.now) rule no_rule) self.entry.plan.now }
         ensures small { unsigned_abs result ≤ 320000 }
     {
+        // A sum of signed numbers: its bound is shown turn by turn.
         let mut sum = 0;
         for number in self.plan {
             sum += self.weight_at(bank, rule, *number);
@@ -110,7 +111,7 @@ impl Offered<'_> {
         requires { length (B.Bank.rules bank.now) ≤ 128 }
         ensures { result ≡ lowest (broken (arcs_of self.entry.chart.now) self.entry.plan.now (B.Bank.rules bank.now)) }
     {
-        // Numbers of rules: a bank is no list.
+        // Numbers of rules: a bank is no list. No `find`: its closure would owe what `breaks` asks of a rule.
         for rule in 0..bank.count() {
             if self.breaks(bank, rule) {
                 // At most 127.

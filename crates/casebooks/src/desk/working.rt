@@ -42,7 +42,7 @@ impl Desk {
         pricing.priced_plan(&self.chart, &standing, plan)
     }
 
-    /// Whether a plan stands in the working case; writes the first that does.
+    /// Whether a plan stands in the working case; writes the first that does into a lent buffer, so the answer is a yes or no.
     pub fn sampled(&self, plan: &mut [usize]) -> bool
         requires some { 0 < length (model_of self.now).pile }
         requires room { places_of self.now.chart ≤ length plan.old }

@@ -24,7 +24,7 @@ fn one_case() -> SplitTable
 }
 
 // That a case is open is a clause: a struct that kept it would have to be made anew after each change. A height is at most 1,024, so
-// the casts lose nothing.
+// the casts lose nothing. An array of marks is as long as any list of arcs: memory is fixed.
 impl Pile {
     /// One case with every arc.
     pub fn new() -> Pile

@@ -79,7 +79,7 @@ impl Marks {
         ensures long { length result ≡ 1024 }
         ensures each { (a : ℕ) → slice_index_or result a false ≡ (nat_lt a (length arcs.entry.all.now) && slice_index self.now.at a == 0) }
     {
-        // An array, as long as any list of arcs: memory is fixed.
+        // An array, as long as any list of arcs: memory is fixed. By number, since it is written where the marks are read.
         let mut out = [false; 1024];
         for (i, mark) in self.at[..arcs.all.len()].iter().enumerate() {
             out[i] = *mark == 0;
