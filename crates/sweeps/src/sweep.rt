@@ -13,7 +13,7 @@ use tallies::tally::Tally;
 fn relax<T: Tally>(from: usize, to: usize, price: i64, out: &mut [T::Amount])
     requires from_within { from < length out.old }
     requires to_within { to < length out.old }
-    requires amount_small { T.Tally.size (slice_index_or out.old from T.Tally.NO_PLAN) < wide }
+    requires amount_small { T.Tally.size (slice_index_or out.old from T.Tally.nothing) < wide }
     requires price_small { unsigned_abs price < wide }
     ensures { out.new ≡ relaxed T.Tally out.old from to price }
 {
@@ -53,8 +53,8 @@ impl Priced<'_> {
         ensures { FilledTo T.Tally self.now H.Heading (places_of self.now.chart.now) out.new }
     {
         let places = usize::from(self.chart.places());
-        out.fill_with(|| T::NO_PLAN);
-        out[32 * H::row_at(places, 0)] = T::EMPTY_PLAN;
+        out.fill_with(|| T::no_plan());
+        out[32 * H::row_at(places, 0)] = T::empty_plan();
         // Numbers of steps: there is no list of them.
         for step in 0..places {
             self.cross::<T, H>(step, out);

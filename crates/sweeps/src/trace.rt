@@ -44,7 +44,7 @@ impl Priced<'_> {
         requires room { places_of self.now.chart.now ≤ length plan.old }
         ensures { TracedInto T.Tally self.now plan.old plan.new result }
     {
-        if T::first(T::NO_PLAN, table[0]) {
+        if T::first(T::no_plan(), table[0]) {
             return false;
         }
         let mut node = 0;

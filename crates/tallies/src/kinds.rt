@@ -11,13 +11,9 @@ pub struct Reach;
 impl Tally for Reach {
     type Amount = bool;
 
-    const NO_PLAN: bool = false;
+    ghost nothing = { false };
 
-    ghost NO_PLAN = { false };
-
-    const EMPTY_PLAN: bool = true;
-
-    ghost EMPTY_PLAN = { true };
+    ghost start = { true };
 
     ghost joins = { λ a b. a || b };
 
@@ -26,6 +22,14 @@ impl Tally for Reach {
     ghost size = { λ _. 0 };
 
     ghost lawful = { reach_lawful };
+
+    fn no_plan() -> bool {
+        false
+    }
+
+    fn empty_plan() -> bool {
+        true
+    }
 
     fn join(a: bool, b: bool) -> bool {
         a || b
@@ -50,13 +54,9 @@ pub struct Least;
 impl Tally for Least {
     type Amount = Option<i64>;
 
-    const NO_PLAN: Option<i64> = None;
+    ghost nothing = { None };
 
-    ghost NO_PLAN = { None };
-
-    const EMPTY_PLAN: Option<i64> = Some(0);
-
-    ghost EMPTY_PLAN = { Some (pos 0) };
+    ghost start = { Some (pos 0) };
 
     ghost joins = { least_join };
 
@@ -65,6 +65,14 @@ impl Tally for Least {
     ghost size = { least_size };
 
     ghost lawful = { least_lawful };
+
+    fn no_plan() -> Option<i64> {
+        None
+    }
+
+    fn empty_plan() -> Option<i64> {
+        Some(0)
+    }
 
     fn join(a: Option<i64>, b: Option<i64>) -> Option<i64> {
         match (a, b) {

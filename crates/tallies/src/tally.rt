@@ -7,21 +7,23 @@ ghost use Rattle.tallies.specs.Laws.{TallyLaws, wide};
 pub trait Tally {
     type Amount: Copy;
 
-    /// The amount of "no plan".
-    const NO_PLAN: Self::Amount;
+    ghost nothing: { Self.Amount };
 
-    ghost NO_PLAN: { Self.Amount };
-
-    /// The amount of the empty plan.
-    const EMPTY_PLAN: Self::Amount;
-
-    ghost EMPTY_PLAN: { Self.Amount };
+    ghost start: { Self.Amount };
 
     ghost joins: { Self.Amount → Self.Amount → Self.Amount };
 
     ghost extends: { Self.Amount → ℤ → Self.Amount };
 
     ghost size: { Self.Amount → ℕ };
+
+    /// The amount of "no plan". A function, since a constant's value calls none: an amount may come from its type's own call.
+    fn no_plan() -> Self::Amount
+        ensures { result ≡ nothing };
+
+    /// The amount of the empty plan.
+    fn empty_plan() -> Self::Amount
+        ensures { result ≡ start };
 
     /// The joining of two amounts.
     fn join(a: Self::Amount, b: Self::Amount) -> Self::Amount
@@ -33,7 +35,7 @@ pub trait Tally {
         ensures { result ≡ extends a price };
 
     // What every kind owes.
-    ghost lawful: { TallyLaws NO_PLAN EMPTY_PLAN joins extends size };
+    ghost lawful: { TallyLaws nothing start joins extends size };
 }
 
 /// A tally whose joining is always one of the two.

@@ -56,7 +56,7 @@ module _ {X A : Type 0} (t : Ghosts X A) (laws : Lawful t) (n : ℕ) (arcs : Lis
       let high = node.high in
       let below = node.below in
       let few = sealed.few in
-      get_or_read table q x (omega arith) read t.NO_PLAN ∙ ap (λ m. get_or table m t.NO_PLAN) at ∙ filled k v node
+      get_or_read table q x (omega arith) read t.nothing ∙ ap (λ m. get_or table m t.nothing) at ∙ filled k v node
 
   -- and where an arc of place k ends
   pub read_beyond : (table : List A) (k v i q : ℕ) (x : A) → Backward t n arcs s price table → length table ≡ 1056 → 1 ≤ k → next arcs k v i ≡ true → q ≡ 32 * k + (arc_at arcs i).end → x ≡ get_or table q x → x ≡ amount (suc k) (arc_at arcs i).end
@@ -107,7 +107,7 @@ module _ {X A : Type 0} (t : Ghosts X A) (laws : Lawful t) (n : ℕ) (arcs : Lis
     attains_no i e p = taken i e ∙ sym p
 
     -- an amount that is not "no plan" is attained
-    pub attained : (amount k v ≡ t.NO_PLAN → ⊥) → (i : ℕ) × ((i < length arcs) × Attains t n arcs s price k v i)
+    pub attained : (amount k v ≡ t.nothing → ⊥) → (i : ℕ) × ((i < length arcs) × Attains t n arcs s price k v i)
     attained some =
         ⊎_elim (λ z. absurd (some (amount_same k v node high ∙ z))) (λ r.
         let i = r.0 in
@@ -117,7 +117,7 @@ module _ {X A : Type 0} (t : Ghosts X A) (laws : Lawful t) (n : ℕ) (arcs : Lis
         (i, (l, (e, after_same k v i node.low goes ∙ r.1.1.1 ∙ sym (amount_same k v node high))))) (some_part t laws chooses backward n arcs s price small (n - k) v narrow (length arcs))
 
   -- an arc that attains an amount ends where an amount is
-  pub amount_left : (k v i : ℕ) → Attains t n arcs s price k v i → (amount k v ≡ t.NO_PLAN → ⊥) → amount (suc k) (arc_at arcs i).end ≡ t.NO_PLAN → ⊥
+  pub amount_left : (k v i : ℕ) → Attains t n arcs s price k v i → (amount k v ≡ t.nothing → ⊥) → amount (suc k) (arc_at arcs i).end ≡ t.nothing → ⊥
   amount_left k v i (_, e) some none =
       some (sym e ∙ ap (λ a. t.extends a (price i)) none ∙ laws.absorbs (price i) (omega (arith, small i)))
 
@@ -143,8 +143,8 @@ module _ {X A : Type 0} (t : Ghosts X A) (laws : Lawful t) (n : ℕ) (arcs : Lis
     amount = sym (backward_way t price n arcs s sealed k v node ∙ last (suc n - k) v (omega (arith, e)) (node.end e));
   }
     where
-      last : (j v : ℕ) → j ≡ 0 → v ≡ 0 → way_amount t backward n arcs s price j v ≡ t.EMPTY_PLAN
-      last zero zero _ _ = neutral_right t laws t.EMPTY_PLAN
+      last : (j v : ℕ) → j ≡ 0 → v ≡ 0 → way_amount t backward n arcs s price j v ≡ t.start
+      last zero zero _ _ = neutral_right t laws t.start
       last zero (suc v) _ z = absurd (omega arith)
       last (suc j) v z _ = absurd (omega arith)
   traced_reaches (i ∷ p) k v node (pick, rest) =

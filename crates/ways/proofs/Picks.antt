@@ -71,13 +71,13 @@ module _ {X A : Type 0} (t : Ghosts X A) (laws : Lawful t) (chooses : Chooses t)
     wider : (m : ℕ) (a b : A) → a ≡ b → Part m a → Part (suc m) b
     wider m a b e (i, (l, (y, x))) = (i, (omega arith, (y, x ∙ e)))
 
-    part_step : (m : ℕ) (b : Bool) → brings m ≡ b → (whole m ≡ t.NO_PLAN) ⊎ Part m (whole m) → (grown m b ≡ t.NO_PLAN) ⊎ Part (suc m) (grown m b)
+    part_step : (m : ℕ) (b : Bool) → brings m ≡ b → (whole m ≡ t.nothing) ⊎ Part m (whole m) → (grown m b ≡ t.nothing) ⊎ Part (suc m) (grown m b)
     part_step m false e old = ⊎_elim inl (λ p. inr (wider m _ _ refl p)) old
     part_step m true e old =
         ⊎_elim (λ (q : t.joins (whole m) (part m) ≡ whole m). ⊎_elim (λ z. inl (q ∙ z)) (λ p. inr (wider m _ _ (sym q) p)) old) (λ (q : t.joins (whole m) (part m) ≡ part m). inr (m, (omega arith, (e, sym q)))) (chooses (whole m) (part m))
 
     -- a joining that is not "no plan" is one of its parts
-    pub some_part : (m : ℕ) → (whole m ≡ t.NO_PLAN) ⊎ Part m (whole m)
+    pub some_part : (m : ℕ) → (whole m ≡ t.nothing) ⊎ Part m (whole m)
     some_part zero = inl refl
     some_part (suc m) =
-        subst (λ a. (a ≡ t.NO_PLAN) ⊎ Part (suc m) a) (sym (one_more t laws h n arcs s price small k v m few)) (part_step m (brings m) refl (some_part m))
+        subst (λ a. (a ≡ t.nothing) ⊎ Part (suc m) a) (sym (one_more t laws h n arcs s price small k v m few)) (part_step m (brings m) refl (some_part m))

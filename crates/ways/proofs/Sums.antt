@@ -27,11 +27,11 @@ through t h n arcs s price k i = t.extends (way_amount t h n arcs s price k (h.n
 
 -- the laws of a tally
 abbrev pub Lawful : {X A : Type 0} → Ghosts X A → Type 0
-Lawful t = TallyLaws t.NO_PLAN t.EMPTY_PLAN t.joins t.extends t.size
+Lawful t = TallyLaws t.nothing t.start t.joins t.extends t.size
 
 module _ {X A : Type 0} (t : Ghosts X A) (laws : Lawful t) where
-  pub neutral_right : (a : A) → t.joins a t.NO_PLAN ≡ a
-  neutral_right a = laws.comm a t.NO_PLAN ∙ laws.neutral a
+  pub neutral_right : (a : A) → t.joins a t.nothing ≡ a
+  neutral_right a = laws.comm a t.nothing ∙ laws.neutral a
 
   pub joining_append : (xs ys : List A) → joining t (xs ++ ys) ≡ t.joins (joining t xs) (joining t ys)
   joining_append [] ys = sym (laws.neutral (joining t ys))

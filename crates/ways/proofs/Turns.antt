@@ -132,7 +132,7 @@ module _ {X A : Type 0} (t : Ghosts X A) (price : ℕ → ℤ) where
   along_reverse : (p : List ℕ) → along t price (reverse p) ≡ along_back t price p
   along_reverse [] = refl
   along_reverse (i ∷ p) =
-      ap (along t price) (reverse_cons i p) ∙ fold_push (λ a j. t.extends a (price j)) t.EMPTY_PLAN (reverse p) i ∙ ap (λ a. t.extends a (price i)) (along_reverse p)
+      ap (along t price) (reverse_cons i p) ∙ fold_push (λ a j. t.extends a (price j)) t.start (reverse p) i ∙ ap (λ a. t.extends a (price i)) (along_reverse p)
 
   amounts_reverse : (ps : List (List ℕ)) → map (along t price) (map reverse ps) ≡ map (along_back t price) ps
   amounts_reverse [] = refl
@@ -164,6 +164,6 @@ module _ {X A : Type 0} (t : Ghosts X A) (price : ℕ → ℤ) where
         let low = node.low in
         let high = node.high in
         let at : k - 1 ≡ n - (suc n - k) = omega arith in
-        ap (λ r. get_or table (32 * r + v) t.NO_PLAN) at
+        ap (λ r. get_or table (32 * r + v) t.nothing) at
         ∙ f.done (suc n - k) v (omega arith) (omega arith) node.below
         ∙ sym (backward_way sealed k v node)

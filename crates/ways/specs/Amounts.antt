@@ -16,15 +16,15 @@ price_at prices a = slice_index_or prices a (pos 0)
 module _ {X A : Type 0} (t : Ghosts X A) (price : ℕ → ℤ) where
   -- the amount of a partial plan, extended arc by arc from its start on, and from its end on
   abbrev pub along : List ℕ → A
-  along p = fold (λ x a. t.extends x (price a)) t.EMPTY_PLAN p
+  along p = fold (λ x a. t.extends x (price a)) t.start p
 
   abbrev pub along_back : List ℕ → A
-  along_back [] = t.EMPTY_PLAN
+  along_back [] = t.start
   along_back (a ∷ p) = t.extends (along_back p) (price a)
 
 -- the joining of a list of amounts
 abbrev pub joining : {X A : Type 0} → Ghosts X A → List A → A
-joining t [] = t.NO_PLAN
+joining t [] = t.nothing
 joining t (a ∷ xs) = t.joins a (joining t xs)
 
 -- the joining over all standing partial plans from the root to node v of level k
@@ -42,12 +42,12 @@ entry k v = 32 * (k - 1) + v
 -- the table holds at each node of the chart the joining over all standing partial plans from the root to it
 abbrev pub Forward : {X A : Type 0} → Ghosts X A → ℕ → List Arc → Case → (ℕ → ℤ) → List A → Type 0
 Forward t n arcs s price table =
-    (k v : ℕ) → Node n k v → slice_index_or table (entry k v) t.NO_PLAN ≡ forward_amount t arcs s price k v
+    (k v : ℕ) → Node n k v → slice_index_or table (entry k v) t.nothing ≡ forward_amount t arcs s price k v
 
 -- and here over those from it to the end
 abbrev pub Backward : {X A : Type 0} → Ghosts X A → ℕ → List Arc → Case → (ℕ → ℤ) → List A → Type 0
 Backward t n arcs s price table =
-    (k v : ℕ) → Node n k v → slice_index_or table (entry k v) t.NO_PLAN ≡ backward_amount t n arcs s price k v
+    (k v : ℕ) → Node n k v → slice_index_or table (entry k v) t.nothing ≡ backward_amount t n arcs s price k v
 
 -- marks and prices for each arc, no price too large
 pub record Sweepable (arcs : List Arc) (on : List Bool) (prices : List ℤ) : Type 0 where

@@ -11,7 +11,7 @@ price_sum price [] = pos 0
 price_sum price (a ∷ p) = price a +ℤ price_sum price p
 
 abbrev pub leasts : Ghosts Least (Option ℤ)
-leasts = record { NO_PLAN = None; EMPTY_PLAN = Some (pos 0); joins = least_join; extends = least_extend; size = least_size }
+leasts = record { nothing = None; start = Some (pos 0); joins = least_join; extends = least_extend; size = least_size }
 
 abbrev pub reaches : Ghosts Reach Bool
-reaches = record { NO_PLAN = false; EMPTY_PLAN = true; joins = λ a b. a || b; extends = λ a _. a; size = λ _. 0 }
+reaches = record { nothing = false; start = true; joins = λ a b. a || b; extends = λ a _. a; size = λ _. 0 }

@@ -42,7 +42,7 @@ module _ {X A : Type 0} (t : Ghosts X A) (n : ℕ) (arcs : List Arc) (s : Case) 
   -- first n places the plan that takes at each node the smallest arc that attains the amount, which is a standing plan
   -- that attains the joining over all; and else nothing
   abbrev pub Outcome : List ℕ → List ℕ → Bool → Type 0
-  Outcome old new false = (backward_amount t n arcs s price 1 0 ≡ t.NO_PLAN) × (new ≡ old)
+  Outcome old new false = (backward_amount t n arcs s price 1 0 ≡ t.nothing) × (new ≡ old)
   Outcome old new true =
-      (backward_amount t n arcs s price 1 0 ≢ t.NO_PLAN)
+      (backward_amount t n arcs s price 1 0 ≢ t.nothing)
       × Traced 1 0 (take n new) × Attaining (take n new) × (drop n new ≡ drop n old)

@@ -30,7 +30,7 @@ way_amount t h n arcs s price k v = joining t (map (along_back t price) (ways h 
 -- the table after one arc: the amount at one entry, extended by the price, is joined to that at another
 abbrev pub relaxed : {X A : Type 0} → Ghosts X A → List A → ℕ → ℕ → ℤ → List A
 relaxed t out from to price =
-    slice_set out to (t.joins (slice_index_or out to t.NO_PLAN) (t.extends (slice_index_or out from t.NO_PLAN) price))
+    slice_set out to (t.joins (slice_index_or out to t.nothing) (t.extends (slice_index_or out from t.nothing) price))
 
 -- the entry of node v after k steps
 abbrev pub spot : {Y : Type 0} → Directed Y → ℕ → ℕ → ℕ → ℕ
@@ -38,5 +38,5 @@ spot h n k v = 32 * h.row n k + v
 
 -- a table of which the rows of the steps up to k are filled, and the others hold no plan
 pub record Filled {X A Y : Type 0} (t : Ghosts X A) (h : Directed Y) (n : ℕ) (arcs : List Arc) (s : Case) (price : ℕ → ℤ) (k : ℕ) (out : List A) : Type 0 where
-  pub done : (l v : ℕ) → l ≤ k → l ≤ n → v < 32 → slice_index_or out (spot h n l v) t.NO_PLAN ≡ way_amount t h n arcs s price l v
-  pub rest : (l v : ℕ) → k < l → l ≤ n → v < 32 → slice_index_or out (spot h n l v) t.NO_PLAN ≡ t.NO_PLAN
+  pub done : (l v : ℕ) → l ≤ k → l ≤ n → v < 32 → slice_index_or out (spot h n l v) t.nothing ≡ way_amount t h n arcs s price l v
+  pub rest : (l v : ℕ) → k < l → l ≤ n → v < 32 → slice_index_or out (spot h n l v) t.nothing ≡ t.nothing

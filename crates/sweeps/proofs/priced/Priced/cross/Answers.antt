@@ -26,7 +26,7 @@ relax-requires-clause-amount_small g c =
     let from : 32 * c.row_at-from.result + c.from-then-from-place.result ≡ spot h n k (h.near x) =
     let a = c.row_at-from.ensures in let b = c.near_end.ensures in let d = c.from-places.ensures in let e = c.places.ensures.value in let f = c.from-then-from-place.ensures in cc
     in
-    subst (λ q. t.size (get_or c.loop-i.out q t.NO_PLAN) < wide) (sym from) (before_narrow t g.met.T.Tally.lawful h st n whole.few arcs _ _ c.args.self.now.fit.small k i c.requires.more c.loop-i.out (h.near x) (st.near_node x (whole.arc i there).noded) c.loop-i.invariant)
+    subst (λ q. t.size (get_or c.loop-i.out q t.nothing) < wide) (sym from) (before_narrow t g.met.T.Tally.lawful h st n whole.few arcs _ _ c.args.self.now.fit.small k i c.requires.more c.loop-i.out (h.near x) (st.near_node x (whole.arc i there).noded) c.loop-i.invariant)
 
 pub loop-i-preserved : goal.loop-i-preserved
 loop-i-preserved g c =

@@ -43,7 +43,7 @@ loop-j-preserved g c =
     let picked = c.in-Some.ensures in
     let goes = (and_parts (s i) (next arcs k node i) picked.1.0.0).1 in (
       subst₂ (λ m v. Completes t n arcs s price (take (j + 1) (set plan j i)) m v) up to (completes_more t laws n arcs all s price small plan j i k node l picked.1 c.loop-j.invariant.0),
-      subst₂ (λ m v. backward_amount t n arcs s price m v ≡ t.NO_PLAN → ⊥) up to (amount_left t laws n arcs all s price small k node i picked.1.0 c.loop-j.invariant.1),
+      subst₂ (λ m v. backward_amount t n arcs s price m v ≡ t.nothing → ⊥) up to (amount_left t laws n arcs all s price small k node i picked.1.0 c.loop-j.invariant.1),
       subst₂ (λ m v. Node n m v) up to (end_node n arcs all k node i c.loop-j.invariant.2.low goes),
       drop-set-lt n plan j i more ∙ c.loop-j.invariant.3,
     )

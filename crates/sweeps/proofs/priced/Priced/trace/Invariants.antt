@@ -9,6 +9,6 @@ use Rattle.sweeps.proofs.priced.Priced.trace.Given as goal
 abbrev pub invariant-loop-j : goal.invariant-loop-j
 invariant-loop-j g l =
     Completes g.T.Tally (places_of l.self.chart.now) (arcs_of l.self.chart.now) (marked l.self.standing.now) (price_at l.self.prices.now) (take l.j l.plan) (l.j + 1) l.node
-    × (backward_amount g.T.Tally (places_of l.self.chart.now) (arcs_of l.self.chart.now) (marked l.self.standing.now) (price_at l.self.prices.now) (l.j + 1) l.node ≡ g.T.Tally.NO_PLAN → ⊥)
+    × (backward_amount g.T.Tally (places_of l.self.chart.now) (arcs_of l.self.chart.now) (marked l.self.standing.now) (price_at l.self.prices.now) (l.j + 1) l.node ≡ g.T.Tally.nothing → ⊥)
     × Node (places_of l.self.chart.now) (l.j + 1) l.node
     × (drop (places_of l.self.chart.now) l.plan ≡ drop (places_of l.self.chart.now) l.initial.plan)
