@@ -98,9 +98,10 @@ impl Desk {
         self.pile.working(arcs_in(&self.chart))
     }
 
-    /// Leaves in the working case only the arcs that are kept.
-    pub fn keep(&mut self, keeps: &[bool; 1024])
-        requires { 0 < length (model_of self.old).pile }
+    /// Leaves in the working case only the arcs that are kept: a slice, since an array would ask more of callers.
+    pub fn keep(&mut self, keeps: &[bool])
+        requires some { 0 < length (model_of self.old).pile }
+        requires told { length keeps.now ≡ 1024 }
         ensures chart { self.new.chart ≡ self.old.chart }
         ensures model { model_of self.new ≡ piled (model_of self.old) ((λ a. top (model_of self.old).pile a && slice_index_or keeps.now a false) ∷ under (model_of self.old).pile) }
     {

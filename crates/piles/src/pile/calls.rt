@@ -48,7 +48,7 @@ impl Pile {
         ensures long { length result ≡ 1024 }
         ensures each { (a : ℕ) → slice_index_or result a false ≡ top (pile_of arcs.entry.all.now self.now) a }
     {
-        self.marks.standing(arcs)
+        self.marks.standing(arcs.all.len())
     }
 
     /// Leaves in the working case only the arcs that are kept.
@@ -58,7 +58,7 @@ impl Pile {
         ensures { pile_of arcs.entry.all.now self.new ≡ (λ a. top (pile_of arcs.entry.all.now self.old) a && slice_index_or keeps.now a false) ∷ under (pile_of arcs.entry.all.now self.old) }
     {
         let height = self.table.count as u16;
-        self.marks.keep(arcs, keeps, height);
+        self.marks.keep(arcs.all.len(), keeps, height);
     }
 
     /// Whether a split of the working case would leave one side without an arc at the place.

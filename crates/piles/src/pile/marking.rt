@@ -62,26 +62,29 @@ impl Marks {
         }
     }
 
-    /// Gives a height to each arc that stands in the working case and is not kept.
-    pub fn keep(&mut self, arcs: Arcs, keeps: &[bool], height: u16)
-        requires { length arcs.all.now ≤ length keeps.now }
-        ensures { (a : ℕ) → slice_index self.new.at a ≡ keep_mark (length arcs.entry.all.now) keeps.now height a (slice_index self.old.at a) }
+    /// Gives a height to each of the first `count` arcs that stands in the working case and is not kept. A number says which arcs
+    /// there are: the arcs themselves would ask more of callers.
+    pub fn keep(&mut self, count: usize, keeps: &[bool], height: u16)
+        requires few { count ≤ 1024 }
+        requires told { count ≤ length keeps.now }
+        ensures { (a : ℕ) → slice_index self.new.at a ≡ keep_mark count keeps.now height a (slice_index self.old.at a) }
     {
-        for (i, keep) in keeps[..arcs.all.len()].iter().enumerate() {
+        for (i, keep) in keeps[..count].iter().enumerate() {
             if self.at[i] == 0 && !*keep {
                 self.at[i] = height;
             }
         }
     }
 
-    /// Which arcs stand in the working case.
-    pub fn standing(&self, arcs: Arcs) -> [bool; 1024]
+    /// Which of the first `count` arcs stand in the working case.
+    pub fn standing(&self, count: usize) -> [bool; 1024]
+        requires { count ≤ 1024 }
         ensures long { length result ≡ 1024 }
-        ensures each { (a : ℕ) → slice_index_or result a false ≡ (nat_lt a (length arcs.entry.all.now) && slice_index self.now.at a == 0) }
+        ensures each { (a : ℕ) → slice_index_or result a false ≡ (nat_lt a count && slice_index self.now.at a == 0) }
     {
         // An array, as long as any list of arcs: memory is fixed. By number, since it is written where the marks are read.
         let mut out = [false; 1024];
-        for (i, mark) in self.at[..arcs.all.len()].iter().enumerate() {
+        for (i, mark) in self.at[..count].iter().enumerate() {
             out[i] = *mark == 0;
         }
         out
