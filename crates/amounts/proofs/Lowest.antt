@@ -16,6 +16,10 @@ later_none : (o : Option ℕ) → later o ≡ None → o ≡ None
 later_none None e = refl
 later_none (Some r) e = some_none (suc r) e
 
+later_zero : {X : Type 0} (o : Option ℕ) → later o ≡ Some zero → X
+later_zero None e = some_none zero (sym e)
+later_zero (Some r) e = let z : suc r ≡ 0 = cc in absurd (omega arith)
+
 later_suc : (o : Option ℕ) (r : ℕ) → later o ≡ Some (suc r) → o ≡ Some r
 later_suc None r e = some_none (suc r) (sym e)
 later_suc (Some q) r e = let z : suc q ≡ suc r = cc in let s : q ≡ r = omega arith in ap (λ (x : ℕ). Some x) s
@@ -41,12 +45,34 @@ pub lowest_none : (bs : List Bool) → ((k : ℕ) → k < length bs → get_or b
 lowest_none [] h = refl
 lowest_none (b ∷ bs) h = none_first b (lowest bs) (h 0 (omega arith)) (lowest_none bs (λ k l. h (suc k) (omega arith)))
 
+-- the lowest is true
+pub lowest_true : (bs : List Bool) (r : ℕ) → lowest bs ≡ Some r → get_or bs r false ≡ true
+lowest_true [] r e = some_none r (sym e)
+lowest_true (true ∷ bs) zero e = refl
+lowest_true (true ∷ bs) (suc r) e = let z : ◌≡◌ {A = ℕ} 0 (suc r) = cc in absurd (omega arith)
+lowest_true (false ∷ bs) zero e = later_zero (lowest bs) e
+lowest_true (false ∷ bs) (suc r) e = lowest_true bs r (later_suc (lowest bs) r e)
+
+-- none before it is
+pub lowest_before : (bs : List Bool) (r : ℕ) → lowest bs ≡ Some r → (k : ℕ) → k < r → get_or bs k false ≡ false
+lowest_before [] r e k l = refl
+lowest_before (true ∷ bs) r e k l = let z : ◌≡◌ {A = ℕ} 0 r = cc in absurd (omega arith)
+lowest_before (false ∷ bs) r e zero l = refl
+lowest_before (false ∷ bs) zero e (suc k) l = absurd (omega arith)
+lowest_before (false ∷ bs) (suc r) e (suc k) l = lowest_before bs r (later_suc (lowest bs) r e) k (omega arith)
+
 -- the lowest is a position of the list
 pub lowest_below : (bs : List Bool) (r : ℕ) → lowest bs ≡ Some r → r < length bs
 lowest_below [] r e = some_none r (sym e)
 lowest_below (true ∷ bs) r e = let z : ◌≡◌ {A = ℕ} 0 r = cc in omega arith
 lowest_below (false ∷ bs) zero e = omega arith
 lowest_below (false ∷ bs) (suc r) e = omega (arith, lowest_below bs r (later_suc (lowest bs) r e))
+
+-- where there is no lowest, none is true
+pub none_lowest : (bs : List Bool) → lowest bs ≡ None → (k : ℕ) → get_or bs k false ≡ false
+none_lowest [] e k = refl
+none_lowest (b ∷ bs) e zero = (first_none b (lowest bs) e).0
+none_lowest (b ∷ bs) e (suc k) = none_lowest bs (first_none b (lowest bs) e).1 k
 
 -- the test of rule r, and how many tests there are
 pub unfair_at : (us : List Rule) (zs : List ℤ) → length zs ≡ length us → (r : ℕ) → r < length us → get_or (unfair us zs) r false ≡ not (fair (get_or us r no_rule).sense (get_or zs r (pos 0)))
@@ -110,3 +136,7 @@ unfair_none us zs e g =
     lowest_none (unfair us zs) (λ k i.
     let l : k < length us = omega (arith, unfair_length us zs e) in
     unfair_at us zs e k l ∙ not_from_true _ (g k l))
+
+-- as many multipliers as rules, each fair
+pub fair_all : (us : List Rule) (zs : List ℤ) → length zs ≡ length us → ((k : ℕ) → k < length us → fair (get_or us k no_rule).sense (get_or zs k (pos 0)) ≡ true) → Fair us zs
+fair_all us zs e g = fair_from us zs e (unfair_none us zs e g)

@@ -78,6 +78,11 @@ module _ (us : List Rule) (zs : List ℤ) (range : InRange us) (f : Fair us zs) 
   pub owed_front_size : (n : ℕ) → n ≤ length us → nat_abs (sum_to (owed_of us zs) n) ≤ n * 1_000_000_000_000_000
   owed_front_size n l = sum_size (owed_of us zs) 1_000_000_000_000_000 n (λ r h. owed_of_size r (omega arith))
 
+  -- the price of an arc as far as the first n rules make it
+  pub price_front_size : (x : Arc) (n : ℕ) → on_grid x.place x.route ≡ true → x.minutes ≤ 10_000 → n ≤ length us → nat_abs (pos (1000 * x.minutes) +ℤ sum_to (worth_of us zs x.place x.route) n) ≤ 10_000_000 + n * 10_000_000_000_000
+  price_front_size x n g m l =
+      omega (arith, add_size (pos (1000 * x.minutes)) (sum_to (worth_of us zs x.place x.route) n), worth_front_size x.place x.route n g l)
+
   module _ (few : length us ≤ 128) where
     -- what a place and a route are worth, and the limits' share
     pub worth_size : (place route : ℕ) → on_grid place route ≡ true → nat_abs (worth us zs place route) ≤ 1_280_000_000_000_000
@@ -90,6 +95,16 @@ module _ (us : List Rule) (zs : List ℤ) (range : InRange us) (f : Fair us zs) 
     -- an arc's price
     pub price_size : (x : Arc) → on_grid x.place x.route ≡ true → x.minutes ≤ 10_000 → nat_abs (arc_price us zs x) ≤ 1_280_000_010_000_000
     price_size x g m = omega (arith, add_size (pos (1000 * x.minutes)) (worth us zs x.place x.route), worth_size x.place x.route g)
+
+    -- the sums over the first n rules fit 64 bits
+    pub worth_front_fits : (place route n : ℕ) → on_grid place route ≡ true → n ≤ length us → SFits w64 (sum_to (worth_of us zs place route) n)
+    worth_front_fits place route n g l = fits _ 1_280_000_000_000_000 (omega (arith, worth_front_size place route n g l)) (omega arith)
+
+    pub price_front_fits : (x : Arc) (n : ℕ) → on_grid x.place x.route ≡ true → x.minutes ≤ 10_000 → n ≤ length us → SFits w64 (pos (1000 * x.minutes) +ℤ sum_to (worth_of us zs x.place x.route) n)
+    price_front_fits x n g m l = fits _ 1_280_000_010_000_000 (omega (arith, price_front_size x n g m l)) (omega arith)
+
+    pub owed_front_fits : (n : ℕ) → n ≤ length us → SFits w64 (sum_to (owed_of us zs) n)
+    owed_front_fits n l = fits _ 128_000_000_000_000_000 (omega (arith, owed_front_size n l)) (omega arith)
 
 -- the prices of some arcs of a chart
 pub prices_size : (t : Problem) (zs : List ℤ) (b : ℕ) → ((a : ℕ) → a < length t.arcs → nat_abs (arc_price t.rules zs (arc_at t.arcs a)) ≤ b) → (k v : ℕ) (p : List ℕ) → Path t.arcs k v p → nat_abs (price_sum t zs p) ≤ length p * b

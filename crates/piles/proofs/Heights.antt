@@ -5,6 +5,7 @@ use Rattle.std.proofs.lemmas.Bool.Decides.{nat_tests}
 use Rattle.terms.specs.declared.arc.Arc.{Arc}
 use Rattle.terms.specs.Routes.{in_set}
 use Rattle.plans.specs.Arcs.{arc_at}
+use Rattle.plans.specs.Cases.{every}
 use Rattle.judging.specs.Cases.{inside, outside}
 use Rattle.piles.specs.declared.pile.Split.{Split}
 use Rattle.piles.specs.declared.pile.Side.TheVariants.{Inside, Outside}
@@ -17,6 +18,14 @@ length_under arcs marks splits (suc i) = ap suc (length_under arcs marks splits 
 pub length_cases : (arcs : List Arc) (marks : List ℕ) (splits : List Split) (k : ℕ) → length (cases_of arcs marks splits k) ≡ k
 length_cases arcs marks splits zero = refl
 length_cases arcs marks splits (suc i) = ap suc (length_under arcs marks splits i)
+
+-- with no mark, every arc stands
+pub all_stand : (arcs : List Arc) (marks : List ℕ) (i : ℕ) → ((a : ℕ) → get_or marks a 0 ≡ 0) → stands_at arcs marks i ≡ every arcs
+all_stand arcs marks i none = fun_ext (λ a. subst (λ m. (ltb a (length arcs) && (eqb m 0 || ltb i m)) ≡ ltb a (length arcs)) (sym (none a)) (by (ltb a (length arcs))))
+  where
+    by : (b : Bool) → (b && true) ≡ b
+    by true = refl
+    by false = refl
 
 -- the cases under a height follow the marks up to it and the records below it
 pub under_same : (arcs : List Arc) (marks new : List ℕ) (splits more : List Split) (k : ℕ) → ((i : ℕ) → i ≤ k → stands_at arcs new i ≡ stands_at arcs marks i) → ((i : ℕ) → i < k → split_at more i ≡ split_at splits i) → cases_under arcs new more k ≡ cases_under arcs marks splits k

@@ -26,3 +26,7 @@ le_z_true a b h = grind (arith, ints)
 -- a test of at most that says no
 pub le_z_false : (a b : ℤ) → le_z a b ≡ false → b <ℤ a
 le_z_false a b h = grind (arith, ints)
+
+-- what is at most passes the test
+pub le_le_z : (a b : ℤ) → a ≤ℤ b → le_z a b ≡ true
+le_le_z a b h = grind (arith, ints)

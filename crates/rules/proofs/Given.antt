@@ -1,5 +1,5 @@
 -- What a bank shows of its list of rules for its answers, and what a caller learns of an answer. Assumes nothing.
-use Rattle.std.proofs.Common.{◌≡◌, ℕ, ◌<◌, ◌≤◌, Bool, true, false, cond, ◌&&◌, ltb, leb, List, get_or, ℤ, Some, None, refl, arith}
+use Rattle.std.proofs.Common.{◌≡◌, ℕ, ◌<◌, ◌≤◌, Bool, true, false, cond, ◌&&◌, ltb, leb, List, length, get_or, ℤ, Some, None, refl, arith}
 use Rattle.std.proofs.lemmas.Bool.Decides.{nat_tests}
 use Rattle.std.proofs.lemmas.Bool.{ltb-true, leb-true, lt-ltb, and_parts}
 use Rattle.rules.specs.Rules.{Rule, no_rule, counted, head_in, head_of, on_grid, weight_of}
@@ -40,3 +40,11 @@ weight_known rs r place route w e =
     let k = from_some (ltb r (counted rs) && on_grid place route) w ((get_or rs r no_rule).weight place route) e in
     let p = and_parts (ltb r (counted rs)) (on_grid place route) k.0 in
     record { there = ltb-true r (counted rs) p.0; grid = p.1; value = k.1 }
+
+-- a count of at most 128 is the number of rules
+pub counted_all : (rs : List Rule) → counted rs ≤ 128 → counted rs ≡ length rs
+counted_all rs h = omega arith
+
+-- a rule below the count is one of the list
+pub counted_there : (rs : List Rule) (r : ℕ) → r < counted rs → r < length rs
+counted_there rs r h = omega arith

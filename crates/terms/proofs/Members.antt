@@ -1,5 +1,5 @@
 -- The routes of a set in rising order: how many there are below a route, and where each stands. Assumes nothing.
-use Rattle.std.proofs.Common.{◌≡◌, ℕ, zero, suc, ◌+◌, ◌-◌, ◌*◌, ◌/◌, ◌%◌, ◌^◌, ◌<◌, ◌≤◌, max, Bool, true, false, ◌&&◌, ◌||◌, eqb, leb, List, [], ◌∷◌, ◌++◌, length, get_or, sym, refl, ap, ◌∙◌, subst, inl, inr, mod-lt, mod-eq_of_lt, pow-suc, one-add, arith, pow_pos, pow_mono, pow-add}
+use Rattle.std.proofs.Common.{◌≡◌, ℕ, zero, suc, ◌+◌, ◌-◌, ◌*◌, ◌/◌, ◌%◌, ◌^◌, ◌<◌, ◌≤◌, max, Bool, true, false, ◌&&◌, ◌||◌, eqb, leb, List, [], ◌∷◌, ◌++◌, length, get_or, sym, refl, ap, ◌∙◌, subst, ap₂, inl, inr, mod-lt, mod-eq_of_lt, pow-suc, one-add, arith, pow_pos, pow_mono, pow-add}
 use native.Mathlib.Nat.{div-eq_of_lt, div_self, mul-mod_left, mul-add-mod_self_right, mod-one}
 use native.Mathlib.Decide.{le_ind}
 use lib.Bits.{bit_and, bit_or, or_shr, or_step, and_mask}
@@ -217,3 +217,18 @@ is_at bits n i q h l =
           ne_eqb q (get_or (members bits n) i 0) (λ s. both_ways (in_set bits q) e (ap (λ (m : ℕ). in_set bits m) s ∙ k.inside))
           ∙ sym (and_left (in_set bits q) _ e)
     ]
+
+-- two bits with the same test are the same
+same_bit : (x y : ℕ) → x < 2 → y < 2 → eqb x 1 ≡ eqb y 1 → x ≡ y
+same_bit x y h g e = grind (arith, nat_tests)
+
+-- two sets with the same routes agree in their first k bits
+pub same_low : (xs ys k : ℕ) → ((q : ℕ) → in_set xs q ≡ in_set ys q) → xs % 2 ^ k ≡ ys % 2 ^ k
+same_low xs ys zero e = mod-one xs ∙ sym (mod-one ys)
+same_low xs ys (suc k) e =
+    low_more xs k ∙ ap₂ (λ (b n : ℕ). b * 2 ^ k + n) (same_bit (bit_at xs k) (bit_at ys k) (omega arith) (omega arith) (e k)) (same_low xs ys k e)
+    ∙ sym (low_more ys k)
+
+-- two sets with the same routes are the same number
+pub same_set : (xs ys : ℕ) → xs < 2 ^ 64 → ys < 2 ^ 64 → ((q : ℕ) → in_set xs q ≡ in_set ys q) → xs ≡ ys
+same_set xs ys h g e = sym (mod-eq_of_lt h) ∙ same_low xs ys 64 e ∙ mod-eq_of_lt g

@@ -44,7 +44,7 @@ not_counts (negsuc n) e = absurd (true≢false e)
 
 module _ (zs : List ℤ) (m : ℕ) (numbers : List ℕ) (c : Collected zs m numbers) where
   -- a rule whose multiplier is 0 is left out
-  collected_skip : get_or zs m (pos 0) ≡ pos 0 → Collected zs (suc m) numbers
+  pub collected_skip : get_or zs m (pos 0) ≡ pos 0 → Collected zs (suc m) numbers
   collected_skip e = record {
     few = omega (arith, c.few);
     below = λ j l. omega (arith, c.below j l);
@@ -52,7 +52,7 @@ module _ (zs : List ℤ) (m : ℕ) (numbers : List ℕ) (c : Collected zs m numb
   }
 
   -- any other is added at the end
-  collected_more : Collected zs (suc m) (numbers ++ m ∷ [])
+  pub collected_more : Collected zs (suc m) (numbers ++ m ∷ [])
   collected_more =
       let long = length-append numbers (m ∷ []) in
       let other : (j : ℕ) → j < length numbers → get_or (numbers ++ m ∷ []) j 0 ≡ get_or numbers j 0 = λ j l. get_or-append numbers (m ∷ []) 0 j l in
@@ -82,7 +82,7 @@ module _ (us : List Rule) (zs : List ℤ) (numbers : List ℕ) (asked : Priceabl
   pub active_there : (j : ℕ) → j < length numbers → get_or numbers j 0 < length zs
   active_there = c.below
 
-  active_below : (j : ℕ) → j < length numbers → get_or numbers j 0 < length us
+  pub active_below : (j : ℕ) → j < length numbers → get_or numbers j 0 < length us
   active_below j l = omega (arith, active_there j l, fair_length us zs asked.fair)
 
   -- an arc's price is made by these rules alone

@@ -164,37 +164,37 @@ module _ (n : ℕ) (arcs : List Arc) (sealed : Sealed n arcs) (s : Case) (price 
 
 module _ (n : ℕ) (arcs : List Arc) (sealed : Sealed n arcs) (a : ℕ) (l : a < length arcs) where
   -- the nodes at which an arc starts and ends
-  start_node : Node n (arc_at arcs a).place (arc_at arcs a).start
+  pub start_node : Node n (arc_at arcs a).place (arc_at arcs a).start
   start_node =
       let x = sealed.arc a l in
       record { low = x.placed.0; high = omega (arith, x.placed.1); below = x.noded.0; root = x.rooted; end = λ q. absurd (omega (arith, x.placed.1, q)) }
 
-  final_node : Node n (suc (arc_at arcs a).place) (arc_at arcs a).end
+  pub final_node : Node n (suc (arc_at arcs a).place) (arc_at arcs a).end
   final_node =
       end_node n arcs sealed (arc_at arcs a).place (arc_at arcs a).start a (sealed.arc a l).placed.0 (next_from arcs (arc_at arcs a).place (arc_at arcs a).start a l refl refl)
 
   module _ {X A : Type 0} (t : Ghosts X A) (laws : Lawful t) (s : Case) (price : ℕ → ℤ) (small : (i : ℕ) → nat_abs (price i) ≤ steep) (table : List A) (long : length table ≡ 1056) (q : ℕ) (x : A) (read : x ≡ get_or table q x) where
     -- what is read at them in filled tables
-    read_before : Forward t n arcs s price table → q ≡ entry (arc_at arcs a).place (arc_at arcs a).start → x ≡ amount_before t arcs s price a
+    pub read_before : Forward t n arcs s price table → q ≡ entry (arc_at arcs a).place (arc_at arcs a).start → x ≡ amount_before t arcs s price a
     read_before filled at =
         let x = sealed.arc a l in
         let few = sealed.few in
         let high = x.placed.1 in
         let below = x.noded.0 in
-        get_or_read table q _ (omega arith) read t.NO_PLAN ∙ ap (λ m. get_or table m t.NO_PLAN) at ∙ filled (arc_at arcs a).place (arc_at arcs a).start start_node
+        get_or_read table q _ (omega arith) read t.nothing ∙ ap (λ m. get_or table m t.nothing) at ∙ filled (arc_at arcs a).place (arc_at arcs a).start start_node
 
-    read_behind : Backward t n arcs s price table → q ≡ entry (suc (arc_at arcs a).place) (arc_at arcs a).end → x ≡ amount_behind t n arcs s price a
+    pub read_behind : Backward t n arcs s price table → q ≡ entry (suc (arc_at arcs a).place) (arc_at arcs a).end → x ≡ amount_behind t n arcs s price a
     read_behind filled at = read_table t laws n arcs sealed s price small table (suc (arc_at arcs a).place) (arc_at arcs a).end q x filled long final_node at read
 
   module _ {X A : Type 0} (t : Ghosts X A) (laws : Lawful t) (s : Case) (price : ℕ → ℤ) (small : (i : ℕ) → nat_abs (price i) ≤ steep) where
     -- neither amount is too large
-    before_small : t.size (amount_before t arcs s price a) < wide
+    pub before_small : t.size (amount_before t arcs s price a) < wide
     before_small =
         let few = sealed.few in
         let high = (sealed.arc a l).placed.1 in
         subst (λ (o : A). t.size o < wide) (sym (forward_way t price n arcs s (arc_at arcs a).place (arc_at arcs a).start (sealed.arc a l).placed.0)) (way_narrow t laws onward n arcs s price small ((arc_at arcs a).place - 1) (arc_at arcs a).start (omega arith))
 
-    behind_small : t.size (amount_behind t n arcs s price a) < wide
+    pub behind_small : t.size (amount_behind t n arcs s price a) < wide
     behind_small = amount_narrow t laws n arcs sealed s price small (suc (arc_at arcs a).place) (arc_at arcs a).end final_node
 
 -- so what is read at an arc of a sealed chart, in two filled tables

@@ -25,7 +25,7 @@ module _ (price : ℕ → ℤ) where
   along_onto z (a ∷ p) = along_onto (z +ℤ price a) p ∙ ap Some (+ℤ_assoc z (price a) (price_sum price p))
 
   -- the amount of a partial plan from the root is the sum of its prices
-  along_sum : (p : List ℕ) → along leasts price p ≡ Some (price_sum price p)
+  pub along_sum : (p : List ℕ) → along leasts price p ≡ Some (price_sum price p)
   along_sum p = along_onto (pos 0) p ∙ ap Some (+ℤ_idl (price_sum price p))
 
   -- one more plan

@@ -24,7 +24,7 @@ use Rattle.through.proofs.Passed.{passed, passed_is}
 use Rattle.through.proofs.Minima.{cheapest_shift, amount_shift}
 
 -- the arcs of a sealed chart are on the grid
-sealed_gridded : (n : ℕ) (arcs : List Arc) → Sealed n arcs → AllGridded arcs
+pub sealed_gridded : (n : ℕ) (arcs : List Arc) → Sealed n arcs → AllGridded arcs
 sealed_gridded n arcs sealed a l = record { placed = arc_grid n arcs sealed a l; short = (sealed.arc a l).ranged.1 }
 
 -- no share is too large
@@ -65,11 +65,11 @@ module _ (n : ℕ) (arcs : List Arc) (us : List Rule) (zs : List ℤ) (s : Case)
     plan_is = cheapest_shift (price_sum price) (amount (problem n arcs us) zs) (owed us zs) (standing n arcs s) amount_is
 
     -- the least amount is the least sum of prices and, once, the share
-    least_is : least_extend (amount_in (price_sum price) (cheapest (price_sum price) (standing n arcs s))) (owed us zs) ≡ amount_in (amount (problem n arcs us) zs) (cheapest (amount (problem n arcs us) zs) (standing n arcs s))
+    pub least_is : least_extend (amount_in (price_sum price) (cheapest (price_sum price) (standing n arcs s))) (owed us zs) ≡ amount_in (amount (problem n arcs us) zs) (cheapest (amount (problem n arcs us) zs) (standing n arcs s))
     least_is = amount_shift (price_sum price) (amount (problem n arcs us) zs) (owed us zs) (standing n arcs s) amount_is
 
 -- the least sum of prices is not too large
-least_small : (n : ℕ) (arcs : List Arc) → Sealed n arcs → (s : Case) (price : ℕ → ℤ) → ((a : ℕ) → nat_abs (price a) ≤ steep) → least_size (amount_in (price_sum price) (cheapest (price_sum price) (standing n arcs s))) < wide
+pub least_small : (n : ℕ) (arcs : List Arc) → Sealed n arcs → (s : Case) (price : ℕ → ℤ) → ((a : ℕ) → nat_abs (price a) ≤ steep) → least_size (amount_in (price_sum price) (cheapest (price_sum price) (standing n arcs s))) < wide
 least_small n arcs sealed s price small =
     subst (λ (o : Option ℤ). least_size o < wide) (least_standing price n arcs s) (amount_narrow leasts least_lawful n arcs sealed s price small 1 0 (root_node n arcs sealed))
 

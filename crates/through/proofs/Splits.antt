@@ -12,7 +12,7 @@ use Rattle.plans.proofs.Fronts.{reaching_in, reaching_out}
 use Rattle.plans.proofs.Standing.{stands_in, in_stands}
 
 -- a plan with an arc on it is split by that arc
-on_split_lem : (a : ℕ) (p : List ℕ) → on a p ≡ true → (f : List ℕ) × ((b : List ℕ) × (p ≡ f ++ a ∷ b))
+pub on_split_lem : (a : ℕ) (p : List ℕ) → on a p ≡ true → (f : List ℕ) × ((b : List ℕ) × (p ≡ f ++ a ∷ b))
 on_split_lem a [] h = absurd (true≢false (sym h))
 on_split_lem a (j ∷ p) h =
     elim (or_cases (eqb a j) (on a p) h) [
@@ -26,7 +26,7 @@ on_made a [] b = or_left (eqb a a) (on a b) (eq-eqb a a refl)
 on_made a (j ∷ f) b = or_right (eqb a j) (on a (f ++ a ∷ b)) (on_made a f b)
 
 -- two parts stand exactly if they stand joined
-stands_join : (s : Case) (p q : List ℕ) → stands s (p ++ q) ≡ (stands s p && stands s q)
+pub stands_join : (s : Case) (p q : List ℕ) → stands s (p ++ q) ≡ (stands s p && stands s q)
 stands_join s [] q = refl
 stands_join s (a ∷ p) q = ap (λ b. s a && b) (stands_join s p q) ∙ regroup (s a) (stands s p) (stands s q)
   where

@@ -72,3 +72,7 @@ module _ (arcs : List Arc) where
   pub none_cost : (o : Option (List ℕ)) → None ≡ amount_in (λ p. pos (cost arcs p)) o → None ≡ cost_in arcs o
   none_cost None e = refl
   none_cost (Some p) e = let z : ◌≡◌ {A = ℕ} 0 1 = cc in absurd (omega arith)
+
+  pub some_cost : (o : Option (List ℕ)) (x : ℤ) → Some x ≡ amount_in (λ p. pos (cost arcs p)) o → (c : ℕ) × ((x ≡ pos c) × (Some c ≡ cost_in arcs o))
+  some_cost None x e = let z : ◌≡◌ {A = ℕ} 0 1 = cc in absurd (omega arith)
+  some_cost (Some p) x e = let s : x ≡ pos (cost arcs p) = cc in (cost arcs p, (s, refl))

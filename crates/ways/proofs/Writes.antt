@@ -36,3 +36,7 @@ module _ (n : ℕ) (arcs : List Arc) (sealed : Sealed n arcs) (s : Case) (price 
       same ∙ ap (λ (o : Option (List ℕ)). written o old) (sym (not_there (foremost (standing n arcs s)) (sym (reach_standing price n arcs s) ∙ none)))
   reach_wrote true (some, traced, plan, rest) =
       wrote n old new plan.stands.plan.long rest ∙ ap (λ (o : Option (List ℕ)). written o old) (sym (reach_traced price n arcs sealed s small (take n new) traced))
+
+  pub reach_answer : (r : Bool) → Outcome reaches n arcs s price old new r → r ≡ is_there (foremost (standing n arcs s))
+  reach_answer false (none, same) = sym none ∙ reach_standing price n arcs s
+  reach_answer true (some, traced, plan, rest) = sym (ap is_there (reach_traced price n arcs sealed s small (take n new) traced))
